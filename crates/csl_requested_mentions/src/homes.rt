@@ -1,5 +1,5 @@
 //! Where the entries that requests cite are cited first.
-ghost use Rattle.std.specs.Prelude.{◌≡◌, ◌++◌, IfOk, List, OnOk, filter, filter_map, length, map, slice_get};
+ghost use Rattle.std.specs.Prelude.{◌≡◌, ◌∷◌, ◌++◌, [], IfOk, List, OnOk, filter, filter_map, length, map, slice_get};
 ghost use Rattle.csl_entries.specs.Entries.{distinct};
 ghost use Rattle.csl_entries.specs.Listed.{IsListingOf};
 ghost use Rattle.csl_entries.specs.ListingView.{listing_view};
@@ -7,7 +7,7 @@ ghost use Rattle.csl_passes.specs.Request.{cited};
 ghost use Rattle.csl_passes.specs.RequestView.{request_view, requests_view};
 ghost use Rattle.csl_requested_mentions.specs.Handed.{cite_counts, notes_of_cites};
 ghost use Rattle.csl_requested_mentions.specs.Homes.{homes, standing_cites, standing_in};
-ghost use Rattle.csl_requested_mentions.specs.HomeView.{homes_view};
+ghost use Rattle.csl_requested_mentions.specs.HomeView.{home_view, homes_view};
 ghost use Rattle.csl_requested_mentions.specs.Steps.{is_first_cite};
 
 use crate::home::Home;
@@ -17,7 +17,21 @@ use csl_notes::notes::CiteNotes;
 use csl_passes::acyclic::{AcyclicRequest, AcyclicRequests};
 use std::alloc::{AllocError, Global};
 
-/// Adds the cites of a request that no cite before cites the entry of.
+/// Adds a cite, if no cite before it cites its entry.
+fn push_if_first<'r, 'a, T, P>(
+    firsts: &mut Vec<Home<'r, 'a, T, P>>,
+    cite: Home<'r, 'a, T, P>,
+) -> Result<(), AllocError>
+    ensures { OnOk result (homes_view firsts.new.items
+        ≡ homes_view firsts.old.items ++ filter is_first_cite (home_view cite.entry ∷ [])) }
+{
+    if cite.notes.is_first {
+        firsts.push(cite)?;
+    }
+    Ok(())
+}
+
+/// Adds those cites of a request that no cite before cites the entry of.
 fn push_first_cites<'r, 'a, T, P>(
     firsts: &mut Vec<Home<'r, 'a, T, P>>,
     request: AcyclicRequest<'r, 'a, T, P>,
@@ -29,14 +43,13 @@ fn push_first_cites<'r, 'a, T, P>(
         (standing_in (request_view request.entry.request.now) notes.now)) }
 {
     for (place, item) in request.request.items.iter().enumerate() {
-        if notes[place].is_first {
-            firsts.push(Home {
-                request,
-                place,
-                entry: item.entry,
-                notes: notes[place],
-            })?;
-        }
+        let cite = Home {
+            request,
+            place,
+            entry: item.entry,
+            notes: notes[place],
+        };
+        push_if_first(firsts, cite)?;
     }
     Ok(())
 }
@@ -60,6 +73,21 @@ fn first_cites<'r, 'a, T, P>(
     Ok(firsts)
 }
 
+/// Adds the one of these homes that stands at a place, if there is one.
+fn push_at<'r, 'a, T, P>(
+    homes: &mut Vec<Home<'r, 'a, T, P>>,
+    firsts: &[Home<'r, 'a, T, P>],
+    place: usize,
+) -> Result<(), AllocError>
+    ensures { OnOk result (homes_view homes.new.items ≡ homes_view homes.old.items
+        ++ filter_map (slice_get (homes_view firsts.now)) (place ∷ [])) }
+{
+    if let Some(home) = firsts.get(place) {
+        homes.push(*home)?;
+    }
+    Ok(())
+}
+
 /// Those of these homes that stand at some places, in the order of the places.
 fn at_places<'r, 'a, T, P>(
     alloc: Global,
@@ -71,9 +99,7 @@ fn at_places<'r, 'a, T, P>(
 {
     let mut homes = Vec::with_capacity(alloc, places.len())?;
     for place in places {
-        if let Some(home) = firsts.get(*place) {
-            homes.push(*home)?;
-        }
+        push_at(&mut homes, firsts, *place)?;
     }
     Ok(homes)
 }
