@@ -1,0 +1,31 @@
+-- Walks over lists, one member more.
+use Rattle.std.proofs.Common.{◌≡◌, ℕ, ◌+◌, ◌<◌, List, [], ◌∷◌, ◌++◌, Result, Ok, Err, length, map, take, drop, get_or, ap, sym, ◌∙◌, append-nil}
+use Rattle.std.specs.Prelude.{IfOk, flat_map}
+use Rattle.std.proofs.lemmas.Grind.{flat_map-append}
+use Rattle.std.proofs.lemmas.List.{drop_more, get_or-map, length-map}
+use Rattle.csl_entries.proofs.Placing.{grown}
+
+-- what a result is said to be, said otherwise
+pub if-ok : {A Er : Type 0} (P Q : A → Type 0) (r : Result A Er) → ((v : A) → P v → Q v) → IfOk r P → IfOk r Q
+if-ok P Q (Ok v) f h = f v h
+if-ok P Q (Err e) f h = h
+
+module _ {X V : Type 0} (view : X → V) (xs : List X) (k : ℕ) (x : X) (within : k < length xs) (here : x ≡ get_or xs k x) where
+  -- lists of all, joined
+  pub joined-next : {Y : Type 0} (f : V → List Y) (old new : List Y) → old ≡ flat_map f (map view (take k xs)) → new ≡ old ++ f (view x) → new ≡ flat_map f (map view (take (k + 1) xs))
+  joined-next f old new so_far added =
+      added ∙ ap (λ l. l ++ f (view x)) so_far
+      ∙ sym (ap (flat_map f) (grown xs k x within here view) ∙ flat_map-append f (map view (take k xs)) (view x ∷ []) ∙ ap (λ l. flat_map f (map view (take k xs)) ++ l) (append-nil (f (view x))))
+
+  -- the rest of a list
+  pub opened : map view (drop k xs) ≡ view x ∷ map view (drop (k + 1) xs)
+  opened = ap (map view) (drop_more xs k x within ∙ ap (λ y. y ∷ drop (k + 1) xs) (sym here))
+
+-- two lists that are the same, seen
+module _ {X Y Z : Type 0} (f : X → Z) (g : Y → Z) (xs : List X) (ys : List Y) (same : map f xs ≡ map g ys) where
+  pub as-long : length xs ≡ length ys
+  as-long = sym (length-map xs f) ∙ ap length same ∙ length-map ys g
+
+  pub same-at : (k : ℕ) (x : X) (y : Y) → k < length xs → k < length ys → x ≡ get_or xs k x → y ≡ get_or ys k y → f x ≡ g y
+  same-at k x y w v h q =
+      ap f h ∙ sym (get_or-map f xs k x (f x) w) ∙ ap (λ l. get_or l k (f x)) same ∙ get_or-map g ys k y (f x) v ∙ ap g (sym q)

@@ -1,0 +1,9 @@
+//! The mentions of the entries that requests cite.
+#![tactic(auto)]
+
+pub mod handed;
+pub mod home;
+pub mod homes;
+pub mod mention;
+pub mod mentions;
+pub mod properties;
