@@ -1,7 +1,7 @@
 -- What walks over lists have made so far, one member more.
 use Rattle.std.proofs.Common.{◌≡◌, ℕ, ◌+◌, ◌<◌, ◌≤◌, List, [], ◌∷◌, ◌++◌, length, map, take, get_or, ap, sym, subst, ◌∙◌, zero-add}
 use Rattle.std.specs.List.{enumerate_from}
-use Rattle.std.proofs.lemmas.List.{map-append, take_all, take_more}
+use Rattle.std.proofs.lemmas.List.{get_or-map, length-map, map-append, take_all, take_more}
 use Rattle.std.proofs.lemmas.List.FromFn.{get_or-enumerate_from, length-enumerate_from}
 
 module _ {X : Type 0} (xs : List X) (k : ℕ) (x : X) (within : k < length xs) (here : x ≡ get_or xs k x) where
@@ -20,3 +20,14 @@ module _ {X : Type 0} (xs : List X) (k : ℕ) (x : X) (within : k < length xs) (
 
 pub enumerate-all : {X : Type 0} (xs : List X) (k : ℕ) → length xs ≤ k → take k (enumerate_from 0 xs) ≡ enumerate_from 0 xs
 enumerate-all xs k all = take_all k (enumerate_from 0 xs) (subst (λ n. n ≤ k) (sym (length-enumerate_from 0 xs)) all)
+
+-- the same of what each member is seen as
+module _ {X Y : Type 0} (view : X → Y) (xs : List X) (k : ℕ) where
+  pub within-view : k < length xs → k < length (map view xs)
+  within-view = subst (λ n. k < n) (sym (length-map xs view))
+
+  pub past-view : length xs ≤ k → length (map view xs) ≤ k
+  past-view = subst (λ n. n ≤ k) (sym (length-map xs view))
+
+  pub here-view : (x : X) → k < length xs → x ≡ get_or xs k x → view x ≡ get_or (map view xs) k (view x)
+  here-view x within here = ap view here ∙ sym (get_or-map view xs k x (view x) within)

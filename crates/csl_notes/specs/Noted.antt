@@ -2,8 +2,8 @@
 use Rattle.std.specs.Prelude.{◌≡◌, ℕ, Bool, false, not, ◌||◌, List, Option, None, Some, nat_eq}
 use Rattle.std.specs.HashMap.{HashMap, get}
 use Rattle.csl_notes.specs.Repeats.{cites_other}
+use Rattle.csl_notes.specs.Requests.{Request}
 use Rattle.csl_notes.specs.declared.repeats.NoteEntries.{NoteEntries}
-use Rattle.csl_notes.specs.declared.repeats.PlacedRequest.{PlacedRequest}
 
 -- another entry than this one is noted
 abbrev pub is_other : ℕ → Option NoteEntries → Bool
@@ -19,5 +19,5 @@ noted_with entry (Some e) = record {
 }
 
 -- these are the notes of all requests
-abbrev pub AreNotesOf : {L S : Type 0} → HashMap ℕ NoteEntries S → List (PlacedRequest L) → Type 0
+abbrev pub AreNotesOf : {L S : Type 0} → HashMap ℕ NoteEntries S → List (Request L) → Type 0
 AreNotesOf noted requests = (n e : ℕ) → is_other e (get nat_eq noted n) ≡ cites_other requests n e

@@ -3,8 +3,8 @@ use Rattle.std.specs.Prelude.{ℕ, zero, suc, Bool, true, not, ◌&&◌, ◌||�
 use Rattle.std.specs.List.{enumerate_from, list_any}
 use Rattle.std.specs.Option.{option_and_then, option_eq, option_or}
 use Rattle.csl_notes.specs.declared.repeats.PlacedCite.{PlacedCite}
-use Rattle.csl_notes.specs.declared.repeats.PlacedRequest.{PlacedRequest}
 use Rattle.csl_notes.specs.declared.repeats.Position.{Position}
+use Rattle.csl_notes.specs.Requests.{Request}
 
 -- the member directly before the one at k
 abbrev pub before_at : {X : Type 0} → List X → ℕ → Option X
@@ -24,11 +24,11 @@ may_be_repeated cites_other (Some number) to entry =
 
 module _ {L : Type 0} where
   -- some request in the note of this number cites another entry
-  abbrev pub cites_other : List (PlacedRequest L) → ℕ → ℕ → Bool
+  abbrev pub cites_other : List (Request L) → ℕ → ℕ → Bool
   cites_other requests number entry = list_any (λ r. is_note number r.note
-      && list_any (λ c. not (nat_eq entry c.entry)) r.cites.items) requests
+      && list_any (λ c. not (nat_eq entry c.entry)) r.cites) requests
 
-  module _ (requests : List (PlacedRequest L)) where
+  module _ (requests : List (Request L)) where
     -- of the cites of a request: the only one, where it may be repeated
     abbrev pub only_repeatable : Option ℕ → Option ℕ → List (PlacedCite L) → Option (PlacedCite L)
     only_repeatable from to (c ∷ []) =
@@ -37,8 +37,8 @@ module _ {L : Type 0} where
 
     -- the cite of a request that the first cite of the one behind it may repeat, which stands in
     -- this note
-    abbrev pub repeatable : Option ℕ → PlacedRequest L → Option (PlacedCite L)
-    repeatable note before = only_repeatable before.note note before.cites.items
+    abbrev pub repeatable : Option ℕ → Request L → Option (PlacedCite L)
+    repeatable note before = only_repeatable before.note note before.cites
 
 module _ {L : Type 0} (eq : L → L → Bool) where
   -- the position of a cite that repeats another, by their locators: the same one, or none on both
@@ -61,7 +61,7 @@ module _ {L : Type 0} (eq : L → L → Bool) where
       (enumerate_from 0 cites)
 
   -- those of all requests
-  abbrev pub positions : List (PlacedRequest L) → List (List Position)
+  abbrev pub positions : List (Request L) → List (List Position)
   positions requests = map (λ p. positions_behind
-      (option_and_then (repeatable requests p.1.note) (before_at requests p.0)) p.1.cites.items)
+      (option_and_then (repeatable requests p.1.note) (before_at requests p.0)) p.1.cites)
       (enumerate_from 0 requests)

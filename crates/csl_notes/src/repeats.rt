@@ -4,8 +4,8 @@ ghost use Rattle.std.specs.HashMap.{get};
 ghost use Rattle.std.specs.List.{list_any};
 ghost use Rattle.std.specs.Option.{option_and_then, option_copied};
 ghost use Rattle.csl_notes.specs.Noted.{AreNotesOf, is_other, noted_with};
-ghost use Rattle.csl_notes.specs.declared.repeats.PlacedRequest.{PlacedRequest as Request};
 ghost use Rattle.csl_notes.specs.Repeats.{before_at, is_note, may_be_repeated, only_repeatable, position_behind, position_by, positions, positions_behind, repeatable};
+ghost use Rattle.csl_notes.specs.Requests.{Request, requests_view};
 
 use std::alloc::{AllocError, Global};
 use std::collections::HashMap;
@@ -59,7 +59,7 @@ pub fn positions_of<L: PartialEq>(
     alloc: Global,
     requests: &[PlacedRequest<L>],
 ) -> Result<Vec<Vec<Position>>, AllocError>
-    ensures { IfOk result (λ v. map (λ p. p.items) v.items ≡ positions L.eq requests.now) }
+    ensures { IfOk result (λ v. map (λ p. p.items) v.items ≡ positions L.eq (requests_view requests.now)) }
 {
     let noted = entries_of_notes(alloc, requests)?;
     let mut found = Vec::with_capacity(alloc, requests.len())?;
@@ -75,7 +75,7 @@ fn entries_of_notes<L>(
     alloc: Global,
     requests: &[PlacedRequest<L>],
 ) -> Result<HashMap<usize, NoteEntries>, AllocError>
-    ensures { IfOk result (λ n. AreNotesOf n requests.now) }
+    ensures { IfOk result (λ n. AreNotesOf n (requests_view requests.now)) }
 {
     let mut noted = HashMap::new(alloc);
     for request in requests {
@@ -158,9 +158,10 @@ fn repeatable_before<'x, L>(
     note: Option<usize>,
 ) -> Option<&'x PlacedCite<L>>
     requires within { k < length requests.now }
-    requires noted { AreNotesOf noted.now requests.now }
+    requires noted { AreNotesOf noted.now (requests_view requests.now) }
     ensures { option_copied result
-        ≡ option_and_then (repeatable requests.now note) (before_at requests.now k) }
+        ≡ option_and_then (repeatable (requests_view requests.now) note)
+        (before_at (requests_view requests.now) k) }
 {
     if k == 0 {
         return None;
