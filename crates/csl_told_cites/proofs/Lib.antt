@@ -1,0 +1,4 @@
+pub mod Naming
+pub mod Beside
+pub mod Setting
+pub mod Texts
