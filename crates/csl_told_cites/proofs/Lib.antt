@@ -2,3 +2,5 @@ pub mod Naming
 pub mod Beside
 pub mod Setting
 pub mod Texts
+pub mod Triples
+pub mod Placed

@@ -61,7 +61,7 @@ fn delimiter_of(citation: &Citation, delimiter: YearDelimiter) -> Option<&str>
 }
 
 /// The number of an entry; 0 where there is none.
-fn number_of(numbers: &[usize], entry: usize) -> usize
+pub(crate) fn number_of(numbers: &[usize], entry: usize) -> usize
     ensures { result ≡ slice_index_or numbers.now entry 0 }
 {
     match numbers.get(entry) {

@@ -3,4 +3,6 @@
 #![tactic(auto)]
 
 pub mod arranging;
+pub mod cites;
 pub mod mentions;
+pub mod requests;
