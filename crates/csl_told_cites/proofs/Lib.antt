@@ -4,3 +4,4 @@ pub mod Setting
 pub mod Texts
 pub mod Triples
 pub mod Placed
+pub mod Telling

@@ -1,10 +1,11 @@
 //! The cites of requests in their final order, before they are arranged.
-ghost use Rattle.std.specs.Prelude.{◌≡◌, IfOk, map};
+ghost use Rattle.std.specs.Prelude.{◌≡◌, ◌∷◌, ◌++◌, [], IfOk, OnOk, filter_map, map};
 ghost use Rattle.csl_arranging.specs.Requests.{requests_view as all_arranged_view};
 ghost use Rattle.csl_lookup.specs.PropertiesView.{properties_view};
-ghost use Rattle.csl_passes.specs.RendersView.{item_view, render_view, renders_view};
+ghost use Rattle.csl_passes.specs.RendersView.{item_view, items_view, render_view, renders_view};
 ghost use Rattle.csl_passes.specs.RequestView.{cite_view, request_view, requests_view};
 ghost use Rattle.csl_told_cites.specs.Cites.{
+  told_at,
   told_certain,
   told_cite,
   told_cites,
@@ -125,6 +126,32 @@ fn told_cite<'a, T, P: Drop>(
     })
 }
 
+/// Adds the cite of a request that stands at a place of its final order.
+fn push_told<'a, T, P: Drop, L>(
+    alloc: Global,
+    found: &mut Vec<SpeculativeItemRender<'a, T, P>>,
+    told: &ToldEntries<'_>,
+    request: &CitationRequest<'a, T, P>,
+    notes: &[CiteNotes],
+    cite: &FinalCite<L>,
+) -> Result<(), AllocError>
+    ensures { OnOk result (items_view found.new.items ≡ items_view found.old.items
+        ++ filter_map (told_at (told_view told.now) (request_view request.now) notes.now)
+        (cite.now ∷ [])) }
+{
+    let items = request.items.as_slice();
+    let note = request.note_number();
+    let entry = cite.cite.entry;
+    let place = cite.placed.place;
+    let count = items.len().min(notes.len());
+    if count <= place {
+        return Ok(());
+    }
+    let cite = told_cite(alloc, told, note, entry, place, &items[place], notes[place])?;
+    push(found, cite)?;
+    Ok(())
+}
+
 /// The cites of a request, of which this is known by those before them, in this order.
 fn told_request<'r, 'a, T, P: Drop, L>(
     alloc: Global,
@@ -136,27 +163,12 @@ fn told_request<'r, 'a, T, P: Drop, L>(
     ensures { IfOk result (λ c. render_view c
         ≡ told_request (told_view told.now) (request_view request.now) notes.now cites.now) }
 {
-    let note = request.note_number();
-    let count = request.items.len().min(notes.len());
     let mut render = SpeculativeCiteRender {
         items: Vec::with_capacity(alloc, cites.len())?,
         request,
     };
     for cite in cites {
-        let place = cite.placed.place;
-        if place < count {
-            let item = &request.items[place];
-            let cite = told_cite(
-                alloc,
-                told,
-                note,
-                cite.cite.entry,
-                place,
-                item,
-                notes[place],
-            )?;
-            push(&mut render.items, cite)?;
-        }
+        push_told(alloc, &mut render.items, told, request, notes, cite)?;
     }
     Ok(render)
 }
