@@ -5,3 +5,4 @@ pub mod Texts
 pub mod Triples
 pub mod Placed
 pub mod Telling
+pub mod Standing
