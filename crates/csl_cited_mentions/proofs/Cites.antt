@@ -2,13 +2,13 @@
 use Rattle.std.proofs.Common.{◌≡◌, ℕ, refl}
 use Rattle.csl_tables.specs.Asked.{keeping, reading}
 use Rattle.csl_writers.specs.Writing.{WriterState}
-use Rattle.csl_cited_mentions.specs.Cited.{cited, cites, first_task}
+use Rattle.csl_cited_mentions.specs.Cited.{cited, first_task, keeping_of, reading_of}
 
 module _ {E P N : Type 0} (w : WriterState E P N) (count : ℕ) where
   -- what is read of a mention is what is read of its cite
-  pub reads-as-cite : reading (cited w count) ≡ (λ mention state. reading (cites w count) (first_task mention) state)
+  pub reads-as-cite : reading (cited w count) ≡ (λ mention state. reading_of w (first_task mention) state)
   reads-as-cite = refl
 
   -- and so is what is kept
-  pub keeps-as-cite : keeping (cited w count) ≡ (λ mention state. keeping (cites w count) (first_task mention) state)
+  pub keeps-as-cite : keeping (cited w count) ≡ (λ mention state. keeping_of w (first_task mention) state)
   keeps-as-cite = refl
