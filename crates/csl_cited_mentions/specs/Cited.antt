@@ -4,7 +4,9 @@ use Rattle.csl_lookup.specs.Properties.{Properties}
 use Rattle.csl_lookup.specs.PropertiesView.{properties_view}
 use Rattle.csl_lookup.specs.SourceView.{source_view}
 use Rattle.csl_mentions.specs.declared.state.MentionState.{MentionState}
+use Rattle.csl_mentions.specs.declared.written.Written.{Written}
 use Rattle.csl_tables.specs.Asked.{MentionsWriter, asked_as, is_told}
+use Rattle.csl_tables.specs.declared.writer.WrittenMention.{WrittenMention}
 use Rattle.csl_writers.specs.Counted.{counted}
 use Rattle.csl_writers.specs.Tasks.{CiteTaskValue, cite_task}
 use Rattle.csl_writers.specs.Writing.{WriterState}
@@ -39,14 +41,25 @@ module _ {E P N : Type 0} (w : WriterState E P N) where
       then record t { properties = with_means t.properties state (w.cite t).identifier_usage }
       else t
 
-  -- the same of a mention
+  -- what is written then
+  abbrev pub written_again : CiteTaskValue E P → MentionState → WrittenMention KeptOfMention
+  written_again t state = written_mention (w.cite (task_again t state))
+
+  -- what is read of it, and what is kept
+  abbrev pub reading_of : CiteTaskValue E P → MentionState → Written
+  reading_of t state = (written_again t state).read
+
+  abbrev pub keeping_of : CiteTaskValue E P → MentionState → KeptOfMention
+  keeping_of t state = (written_again t state).kept
+
+  -- the task of a mention
   abbrev pub task_in : CiteMention E P → MentionState → CiteTaskValue E P
   task_in m = task_again (first_task m)
 
   -- cites that are written in states, so many of which were counted
   abbrev pub cites : ℕ → MentionsWriter (CiteTaskValue E P) KeptOfMention (Noted N)
   cites count = record {
-    write = λ t state. written_mention (w.cite (task_again t state));
+    write = written_again;
     noting = λ p noted. record {
       notes = w.noting (cite_task (task_again p.0 p.1)) noted.notes;
       count = counted noted.count;

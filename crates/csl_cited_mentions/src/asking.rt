@@ -5,6 +5,7 @@ ghost use Rattle.csl_writers.specs.Desk.{after, desk};
 ghost use Rattle.csl_writers.specs.Tasks.{cite_task};
 ghost use Rattle.csl_tables.specs.Asked.{is_told};
 ghost use Rattle.csl_cited_mentions.specs.Cited.{with_properties};
+ghost use Rattle.csl_cited_mentions.specs.Kept.{written_mention};
 
 use crate::kept::{KeptOfMention, Noted, written_mention};
 use crate::means::with_means;
@@ -14,7 +15,6 @@ use csl_lookup::properties::CiteProperties;
 use csl_mentions::state::MentionState;
 use csl_tables::writer::{WrittenBy, WrittenMention};
 use csl_writers::asking::written_cite;
-use csl_writers::cite::Cite;
 use csl_writers::counter::Renders;
 use csl_writers::task::CiteTask;
 use csl_writers::writer::CiteWriter;
@@ -34,9 +34,9 @@ fn written_by<T: EntryLike, P, W: CiteWriter<T, P>>(
     properties: &CiteProperties<'_, P>,
     writer: &mut W,
     counter: &mut Renders,
-) -> Result<Cite, W::Error>
-    ensures cite { IfOk result (λ c. c ≡ (W.state writer.old).cite
-        (with_properties mention.now (properties_view properties.now))) }
+) -> Result<WrittenMention<KeptOfMention>, W::Error>
+    ensures written { IfOk result (λ w. w ≡ written_mention ((W.state writer.old).cite
+        (with_properties mention.now (properties_view properties.now)))) }
     ensures asked { OnOk result (desk (W.state writer.new) counter.new
         ≡ after (cite_task (with_properties mention.now (properties_view properties.now)) ∷ [])
         (desk (W.state writer.old) counter.old)) }
@@ -49,7 +49,8 @@ fn written_by<T: EntryLike, P, W: CiteWriter<T, P>>(
         verdict: None,
         place: None,
     };
-    written_cite(alloc, task, writer, counter)
+    let cite = written_cite(alloc, task, writer, counter)?;
+    Ok(written_mention(alloc, &cite)?)
 }
 
 impl<'t, 'p, T: EntryLike, P: Drop, W: CiteWriter<T, P>> WrittenBy<W, Renders>
@@ -70,8 +71,7 @@ impl<'t, 'p, T: EntryLike, P: Drop, W: CiteWriter<T, P>> WrittenBy<W, Renders>
         writer: &mut W,
         counter: &mut Renders,
     ) -> Result<WrittenMention<KeptOfMention>, W::Error> {
-        let cite = written_by(alloc, self, self.properties, writer, counter)?;
-        Ok(written_mention(alloc, &cite)?)
+        written_by(alloc, self, self.properties, writer, counter)
     }
 
     fn write_again(
@@ -83,10 +83,9 @@ impl<'t, 'p, T: EntryLike, P: Drop, W: CiteWriter<T, P>> WrittenBy<W, Renders>
         counter: &mut Renders,
     ) -> Result<WrittenMention<KeptOfMention>, W::Error> {
         if !is_told(told) {
-            return self.write_first(alloc, writer, counter);
+            return written_by(alloc, self, self.properties, writer, counter);
         }
         let properties = with_means(self.properties, told, first.usage)?;
-        let cite = written_by(alloc, self, &properties, writer, counter)?;
-        Ok(written_mention(alloc, &cite)?)
+        written_by(alloc, self, &properties, writer, counter)
     }
 }
