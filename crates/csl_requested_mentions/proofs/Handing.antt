@@ -14,7 +14,7 @@ use Rattle.csl_passes.specs.Request.{RequestedCite, Request, cites_of, entries_o
 use Rattle.csl_requested_mentions.specs.Handed.{handed_cite, handed_cites}
 use Rattle.csl_requested_mentions.specs.Steps.{handed_at, handed_by}
 
-module _ {E P : Type 0} (eq : E → E → Bool) (entries : List E) where
+module _ {E P : Type 0} (eq : E → E → Bool) where
   -- the rows of the table of requests
   pub rows-are : {X : Type 0} (view : X → Request E P) (xs : List X) (table : Table E) (rows : List (Vec ℕ Global)) → table ≡ table_of eq (map view xs) → map (λ ps. ps.items) rows ≡ table.places
       → map (λ ps. ps.items) rows ≡ map (λ x. places_in eq table.entries (view x).cites) xs
@@ -22,6 +22,7 @@ module _ {E P : Type 0} (eq : E → E → Bool) (entries : List E) where
       are ∙ ap (λ t. t.places) is ∙ ap (λ es. map (λ r. places_in eq es r.cites) (map view xs)) (sym (ap (λ t. t.entries) is))
       ∙ map-map (λ r. places_in eq table.entries r.cites) view xs
 
+module _ {E P : Type 0} (eq : E → E → Bool) (entries : List E) where
   module _ (l : Listed) where
     pub counted : (rs : List (Request E P)) → length (handed_by eq entries l rs) ≡ length (cites_of rs)
     counted [] = refl
