@@ -1,5 +1,5 @@
 -- The homes of the bibliography's entries, from the first cites.
-use Rattle.std.proofs.Common.{◌≡◌, ℕ, ◌+◌, Bool, true, ◌&&◌, Option, Some, None, List, [], ◌∷◌, ◌++◌, filter, length, map, refl, ap, sym, ◌∙◌, arith, true≢false}
+use Rattle.std.proofs.Common.{◌≡◌, ℕ, suc, ◌+◌, Bool, true, ◌&&◌, Option, Some, None, List, [], ◌∷◌, ◌++◌, filter, length, map, refl, ap, sym, ◌∙◌, arith, true≢false}
 use Rattle.std.specs.Prelude.{filter_map, is_some, slice_get}
 use Rattle.std.specs.Cmp.{IsEquivalence}
 use Rattle.std.specs.List.{cons_option}
@@ -88,7 +88,8 @@ module _ {E P : Type 0} (eq : E → E → Bool) (laws : IsEquivalence eq) (rs : 
       let there : is_some (home eq listed rs e) ≡ true =
       found eq laws entry_of e all ∙ ap (is_in eq e) all-entries ∙ left (is_in eq e (cited rs)) (all_in eq laws (cited rs) es) inside in
       let more = length-homes es (right (is_in eq e (cited rs)) (all_in eq laws (cited rs) es) inside) in
-      omega (arith, cons-some (home eq listed rs e) (filter_map (home eq listed rs) es) there, more)
+      let next : length (filter_map (home eq listed rs) es) + 1 ≡ suc (length es) = omega (arith, more) in
+      cons-some (home eq listed rs e) (filter_map (home eq listed rs) es) there ∙ next
 
   pub homes-count : length (homes eq listed rs) ≡ length listed
   homes-count = length-homes listed (all-cited eq laws (cited rs) listed same-members)
