@@ -1,5 +1,5 @@
 -- The homes of the bibliography's entries, from the first cites.
-use Rattle.std.proofs.Common.{◌≡◌, ℕ, ◌+◌, Bool, true, ◌&&◌, Option, Some, None, List, [], ◌∷◌, ◌++◌, filter, length, map, refl, ap, sym, ◌∙◌, arith, true≢false}
+use Rattle.std.proofs.Common.{◌≡◌, ℕ, suc, ◌+◌, Bool, true, ◌&&◌, Option, Some, None, List, [], ◌∷◌, ◌++◌, filter, length, map, refl, ap, sym, ◌∙◌, arith, true≢false}
 use Rattle.std.specs.Prelude.{filter_map, is_some, slice_get}
 use Rattle.std.specs.Cmp.{IsEquivalence}
 use Rattle.std.specs.List.{cons_option}
@@ -15,11 +15,11 @@ use Rattle.csl_notes.specs.declared.notes.CiteNotes.{CiteNotes}
 use Rattle.csl_passes.specs.Request.{RequestedCite, Request, cited, cites_of}
 use Rattle.csl_requested_mentions.specs.Handed.{cite_counts, handed_cite, handed_cites, notes_of_cites, parts}
 use Rattle.csl_requested_mentions.specs.Homes.{HomeValue, home, homes, standing_cites}
-use Rattle.csl_requested_mentions.specs.Steps.{handed_by, is_first_cite}
-use Rattle.csl_requested_mentions.proofs.Firsts.{alike, entries-of-firsts, firsts-kept, first-at, found}
+use Rattle.csl_requested_mentions.specs.Steps.{is_first_cite}
+use Rattle.csl_requested_mentions.proofs.Firsts.{alike, firsts-kept, first-at, found}
 use Rattle.csl_requested_mentions.proofs.Handing.{counted, named, notes-count}
-use Rattle.csl_requested_mentions.proofs.Standing.{entries-standing, notes-standing}
-use Rattle.csl_requested_mentions.proofs.Telling.{firsts-told}
+use Rattle.csl_requested_mentions.proofs.Standing.{entries-standing, entry_of, notes-standing, notes_of}
+use Rattle.csl_requested_mentions.proofs.Telling.{firsts-told, name_of}
 
 filter_map-same : {X Y Z : Type 0} (g : Y → Option Z) (h : X → Y) (f : X → Option Z) → ((x : X) → g (h x) ≡ f x) → (xs : List X) → filter_map g (map h xs) ≡ filter_map f xs
 filter_map-same g h f same [] = refl
@@ -42,38 +42,38 @@ module _ {E P : Type 0} (eq : E → E → Bool) (laws : IsEquivalence eq) (rs : 
   notes-long : length notes ≡ length (cites_of rs)
   notes-long = notes-count (handed_cites eq listed rs) ∙ handed-count
 
-  all-entries : map (λ c. c.entry) all ≡ cited rs
+  all-entries : map entry_of all ≡ cited rs
   all-entries = entries-standing rs notes notes-long
 
   same-members : (e : E) → is_in eq e listed ≡ is_in eq e (cited rs)
   same-members e = is.same e ∙ is_in-distinct eq laws e (cited rs)
 
   -- the names of all cites
-  names-in : (r : Request E P) (cs : List (RequestedCite E P)) → map (λ d. d.entry) (map (handed_cite eq listed r) cs) ≡ map (λ e. place eq e listed) (map (λ c. c.entry) cs)
+  names-in : (r : Request E P) (cs : List (RequestedCite E P)) → map name_of (map (handed_cite eq listed r) cs) ≡ map (λ e. place eq e listed) (map (λ c. c.entry) cs)
   names-in r [] = refl
   names-in r (c ∷ cs) = ap (λ ns. place eq c.entry listed ∷ ns) (names-in r cs)
 
-  names-of : (qs : List (Request E P)) → map (λ d. d.entry) (handed_cites eq listed qs) ≡ map (λ e. place eq e listed) (cited qs)
+  names-of : (qs : List (Request E P)) → map name_of (handed_cites eq listed qs) ≡ map (λ e. place eq e listed) (cited qs)
   names-of [] = refl
   names-of (r ∷ qs) =
-      map-append (λ d. d.entry) (map (handed_cite eq listed r) r.cites) (handed_cites eq listed qs)
+      map-append name_of (map (handed_cite eq listed r) r.cites) (handed_cites eq listed qs)
       ∙ (λ i. names-in r r.cites i ++ names-of qs i)
       ∙ sym (map-append (λ e. place eq e listed) (map (λ c. c.entry) r.cites) (cited qs))
 
-  names : map (λ d. d.entry) (handed_cites eq listed rs) ≡ map (λ c. place eq c.entry listed) all
-  names = names-of rs ∙ ap (map (λ e. place eq e listed)) (sym all-entries) ∙ map-map (λ e. place eq e listed) (λ c. c.entry) all
+  names : map name_of (handed_cites eq listed rs) ≡ map (λ c. place eq (entry_of c) listed) all
+  names = names-of rs ∙ ap (map (λ e. place eq e listed)) (sym all-entries) ∙ map-map (λ e. place eq e listed) entry_of all
 
   -- those that are the first of their entries
-  firsts-are : filter is_first_cite all ≡ distinct (alike eq laws (λ c. c.entry)) all
+  firsts-are : filter is_first_cite all ≡ distinct (alike eq laws entry_of) all
   firsts-are =
-      firsts-kept eq laws (λ c. c.entry) is_first_cite [] all
-      (firsts-told eq laws (λ c. c.entry) (λ c. c.notes) listed (handed_cites eq listed rs) all names (notes-standing rs notes notes-long)
+      firsts-kept eq laws entry_of is_first_cite [] all
+      (firsts-told eq laws entry_of notes_of listed (handed_cites eq listed rs) all names (notes-standing rs notes notes-long)
       (ap (all_in eq laws listed) all-entries ∙ all-cited eq laws listed (cited rs) (λ e. sym (same-members e))))
 
   -- the one that stands at an entry's place in the table
   home-at : (e : E) → slice_get (filter is_first_cite all) (place eq e (distinct eq (cited rs))) ≡ home eq listed rs e
   home-at e =
-      (λ i. slice_get (firsts-are i) (place eq e (distinct eq (sym all-entries i)))) ∙ first-at eq laws (λ c. c.entry) e all
+      (λ i. slice_get (firsts-are i) (place eq e (distinct eq (sym all-entries i)))) ∙ first-at eq laws entry_of e all
 
   pub homes-found : (rows : List (List CiteNotes)) (places : List ℕ) (found : List (HomeValue E P)) → rows ≡ notes_of_cites eq listed rs → places ≡ l.order
       → found ≡ filter_map (slice_get (filter is_first_cite (standing_cites rs rows))) places → found ≡ homes eq listed rs
@@ -86,9 +86,10 @@ module _ {E P : Type 0} (eq : E → E → Bool) (laws : IsEquivalence eq) (rs : 
   length-homes [] inside = refl
   length-homes (e ∷ es) inside =
       let there : is_some (home eq listed rs e) ≡ true =
-      found eq laws (λ c. c.entry) e all ∙ ap (is_in eq e) all-entries ∙ left (is_in eq e (cited rs)) (all_in eq laws (cited rs) es) inside in
+      found eq laws entry_of e all ∙ ap (is_in eq e) all-entries ∙ left (is_in eq e (cited rs)) (all_in eq laws (cited rs) es) inside in
       let more = length-homes es (right (is_in eq e (cited rs)) (all_in eq laws (cited rs) es) inside) in
-      omega (arith, cons-some (home eq listed rs e) (filter_map (home eq listed rs) es) there, more)
+      let next : length (filter_map (home eq listed rs) es) + 1 ≡ suc (length es) = omega (arith, more) in
+      cons-some (home eq listed rs e) (filter_map (home eq listed rs) es) there ∙ next
 
   pub homes-count : length (homes eq listed rs) ≡ length listed
   homes-count = length-homes listed (all-cited eq laws (cited rs) listed same-members)

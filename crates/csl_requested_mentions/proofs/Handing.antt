@@ -1,5 +1,5 @@
 -- The cites of all requests, as their entries' places name them.
-use Rattle.std.proofs.Common.{◌≡◌, ℕ, Bool, List, [], ◌∷◌, ◌++◌, Vec, Global, length, map, refl, ap, sym, ◌∙◌, arith}
+use Rattle.std.proofs.Common.{◌≡◌, ℕ, ◌+◌, Bool, List, [], ◌∷◌, ◌++◌, Vec, Global, length, map, refl, ap, sym, ◌∙◌, arith}
 use Rattle.std.specs.List.{enumerate_from}
 use Rattle.std.specs.Prelude.{take}
 use Rattle.std.proofs.lemmas.List.{length-append, length-map}
@@ -14,7 +14,7 @@ use Rattle.csl_passes.specs.Request.{RequestedCite, Request, cites_of, entries_o
 use Rattle.csl_requested_mentions.specs.Handed.{handed_cite, handed_cites}
 use Rattle.csl_requested_mentions.specs.Steps.{handed_at, handed_by}
 
-module _ {E P : Type 0} (eq : E → E → Bool) (entries : List E) where
+module _ {E P : Type 0} (eq : E → E → Bool) where
   -- the rows of the table of requests
   pub rows-are : {X : Type 0} (view : X → Request E P) (xs : List X) (table : Table E) (rows : List (Vec ℕ Global)) → table ≡ table_of eq (map view xs) → map (λ ps. ps.items) rows ≡ table.places
       → map (λ ps. ps.items) rows ≡ map (λ x. places_in eq table.entries (view x).cites) xs
@@ -22,6 +22,7 @@ module _ {E P : Type 0} (eq : E → E → Bool) (entries : List E) where
       are ∙ ap (λ t. t.places) is ∙ ap (λ es. map (λ r. places_in eq es r.cites) (map view xs)) (sym (ap (λ t. t.entries) is))
       ∙ map-map (λ r. places_in eq table.entries r.cites) view xs
 
+module _ {E P : Type 0} (eq : E → E → Bool) (entries : List E) where
   module _ (l : Listed) where
     pub counted : (rs : List (Request E P)) → length (handed_by eq entries l rs) ≡ length (cites_of rs)
     counted [] = refl
@@ -29,7 +30,8 @@ module _ {E P : Type 0} (eq : E → E → Bool) (entries : List E) where
         let row = map (handed_at l r) (places_in eq entries r.cites) in
         let own : length row ≡ length r.cites = length-map (places_in eq entries r.cites) (handed_at l r) ∙ length-map (entries_of r.cites) (λ e. place eq e entries) ∙ length-map r.cites (λ c. c.entry) in
         let more = counted rs in
-        omega (arith, own, more, length-append row (handed_by eq entries l rs), length-append r.cites (cites_of rs))
+        let both : length row + length (handed_by eq entries l rs) ≡ length r.cites + length (cites_of rs) = omega (arith, own, more) in
+        length-append row (handed_by eq entries l rs) ∙ both ∙ sym (length-append r.cites (cites_of rs))
 
     module _ (listed : List E) (is : IsListingOf eq entries listed l) where
       named-row : (r : Request E P) (cs : List (RequestedCite E P)) → map (handed_at l r) (places_in eq entries cs) ≡ map (handed_cite eq listed r) cs

@@ -12,7 +12,10 @@ module _ {H Y : Type 0} (f : ℕ → H → Bool → Y) where
 
   pub length-two : (n : ℕ) (hs : List H) → length (two_of_each n hs) ≡ 2 * length hs
   length-two n [] = refl
-  length-two n (h ∷ hs) = let more = length-two (n + 1) hs in omega (arith, more)
+  length-two n (h ∷ hs) =
+      let more = length-two (n + 1) hs in
+      let all : suc (suc (length (two_of_each (n + 1) hs))) ≡ 2 * suc (length hs) = omega (arith, more) in
+      all
 
   module _ {X V : Type 0} (view : X → H) (seen : V → Y) (xs : List X) (k : ℕ) (n : ℕ) where
     pub two-more : (x : X) → k < length xs → x ≡ get_or xs k x → (made once twice : List V) (p q : V) (all : List Y)

@@ -11,6 +11,10 @@ use Rattle.csl_notes.specs.declared.notes.CiteNotes.{CiteNotes}
 use Rattle.csl_notes.specs.declared.notes.HandedCite.{HandedCite}
 use Rattle.csl_requested_mentions.proofs.Firsts.{FirstsTold, alike}
 
+-- the name of its entry
+abbrev pub name_of : HandedCite → ℕ
+name_of d = d.entry
+
 -- the notes of cites behind others
 notes_from : List HandedCite → List HandedCite → List CiteNotes
 notes_from before [] = []
@@ -54,25 +58,25 @@ module _ {E H : Type 0} (eq : E → E → Bool) (laws : IsEquivalence eq) (entry
       both (is_in eq (entry x) listed) (all_in eq laws listed (map entry (xs ++ h ∷ []))) (left (is_in eq (entry x) listed) (all_in eq laws listed (map entry xs)) all)
       (all-push xs h (right (is_in eq (entry x) listed) (all_in eq laws listed (map entry xs)) all) there)
 
-  told-from : (before : List HandedCite) (seen : List H) (cites : List HandedCite) (hs : List H) → map (λ d. d.entry) before ≡ map name seen → map (λ d. d.entry) cites ≡ map name hs
+  told-from : (before : List HandedCite) (seen : List H) (cites : List HandedCite) (hs : List H) → map name_of before ≡ map name seen → map name_of cites ≡ map name hs
       → map notes hs ≡ notes_from before cites → all_in eq laws listed (map entry seen) ≡ true → all_in eq laws listed (map entry hs) ≡ true
       → FirstsTold eq laws entry (λ h. (notes h).is_first) seen hs
   unfolding notes_from
   told-from before seen cites [] was is known old new = tt
-  told-from before seen [] (h ∷ hs) was is known old new = cc
+  told-from before seen [] (h ∷ hs) was is known old new = absurd (omega (arith, ap length is))
   told-from before seen (c ∷ cs) (h ∷ hs) was is known old new =
       let there : is_in eq (entry h) listed ≡ true = left (is_in eq (entry h) listed) (all_in eq laws listed (map entry hs)) new in
       let own : c.entry ≡ name h = same-head is in
       let any : list_any (cites_entry c.entry) before ≡ is_in (alike eq laws entry) h seen =
-      any-map (nat_eq c.entry) (λ d. d.entry) before ∙ (λ i. list_any (nat_eq (own i)) (was i)) ∙ sym (any-map (nat_eq (name h)) name seen) ∙ named-alike h seen there old in (
+      any-map (nat_eq c.entry) name_of before ∙ (λ i. list_any (nat_eq (own i)) (was i)) ∙ sym (any-map (nat_eq (name h)) name seen) ∙ named-alike h seen there old in (
         ap (λ (n : CiteNotes). n.is_first) (same-head known) ∙ ap not any,
         told-from (before ++ c ∷ []) (seen ++ h ∷ []) cs hs
-            (map-append (λ d. d.entry) before (c ∷ []) ∙ (λ i. was i ++ own i ∷ []) ∙ sym (map-append name seen (h ∷ [])))
+            (map-append name_of before (c ∷ []) ∙ (λ i. was i ++ own i ∷ []) ∙ sym (map-append name seen (h ∷ [])))
             (same-tail is) (same-tail known) (all-push seen h old there)
             (right (is_in eq (entry h) listed) (all_in eq laws listed (map entry hs)) new),
       )
 
   -- of all cites
-  pub firsts-told : (cites : List HandedCite) (hs : List H) → map (λ d. d.entry) cites ≡ map name hs → map notes hs ≡ all_notes cites → all_in eq laws listed (map entry hs) ≡ true
+  pub firsts-told : (cites : List HandedCite) (hs : List H) → map name_of cites ≡ map name hs → map notes hs ≡ all_notes cites → all_in eq laws listed (map entry hs) ≡ true
       → FirstsTold eq laws entry (λ h. (notes h).is_first) [] hs
   firsts-told cites hs is known new = told-from [] [] cites hs refl is (known ∙ spread [] cites 0 refl) refl new

@@ -1,14 +1,9 @@
 -- Walks over lists, one member more.
-use Rattle.std.proofs.Common.{◌≡◌, ℕ, ◌+◌, ◌<◌, List, [], ◌∷◌, ◌++◌, Result, Ok, Err, length, map, take, drop, get_or, ap, sym, ◌∙◌, append-nil}
-use Rattle.std.specs.Prelude.{IfOk, flat_map}
+use Rattle.std.proofs.Common.{◌≡◌, ℕ, ◌+◌, ◌<◌, List, [], ◌∷◌, ◌++◌, length, map, take, drop, get_or, ap, sym, ◌∙◌, append-nil, arith}
+use Rattle.std.specs.Prelude.{flat_map}
 use Rattle.std.proofs.lemmas.Grind.{flat_map-append}
 use Rattle.std.proofs.lemmas.List.{drop_more, get_or-map, length-map}
 use Rattle.csl_entries.proofs.Placing.{grown}
-
--- what a result is said to be, said otherwise
-pub if-ok : {A Er : Type 0} (P Q : A → Type 0) (r : Result A Er) → ((v : A) → P v → Q v) → IfOk r P → IfOk r Q
-if-ok P Q (Ok v) f h = f v h
-if-ok P Q (Err e) f h = h
 
 module _ {X V : Type 0} (view : X → V) (xs : List X) (k : ℕ) (x : X) (within : k < length xs) (here : x ≡ get_or xs k x) where
   -- lists of all, joined
@@ -29,3 +24,7 @@ module _ {X Y Z : Type 0} (f : X → Z) (g : Y → Z) (xs : List X) (ys : List Y
   pub same-at : (k : ℕ) (x : X) (y : Y) → k < length xs → k < length ys → x ≡ get_or xs k x → y ≡ get_or ys k y → f x ≡ g y
   same-at k x y w v h q =
       ap f h ∙ sym (get_or-map f xs k x (f x) w) ∙ ap (λ l. get_or l k (f x)) same ∙ get_or-map g ys k y (f x) v ∙ ap g (sym q)
+
+-- the same in a list that is the same
+pub moved : {X : Type 0} (xs ys : List X) (k : ℕ) (x : X) → ys ≡ xs → k < length ys → x ≡ get_or ys k x → (k < length xs) × (x ≡ get_or xs k x)
+moved xs ys k x same within here = (omega (arith, ap length same, within), here ∙ ap (λ l. get_or l k x) same)
