@@ -15,8 +15,7 @@ abbrev pub collapses_years : Option Collapse → Bool
 collapses_years (Some Collapse.Year) = true
 collapses_years (Some Collapse.YearSuffix) = true
 collapses_years (Some Collapse.YearSuffixRanged) = true
-collapses_years (Some Collapse.CitationNumber) = false
-collapses_years None = false
+collapses_years _ = false
 
 -- a style brings cites with the same names together
 abbrev pub is_grouped : CiteStyle → Bool
