@@ -1,6 +1,6 @@
 -- What walks over requests have made so far, one more.
 use Rattle.std.proofs.Common.{◌≡◌, ℕ, ◌+◌, ◌<◌, ◌≤◌, Bool, List, [], ◌∷◌, ◌++◌, length, map, take, get_or, ap, sym, subst, ◌∙◌, arith}
-use Rattle.std.specs.Prelude.{zip}
+use Rattle.std.specs.Prelude.{IfOk, Result, zip}
 use Rattle.std.specs.List.{enumerate_from}
 use Rattle.std.specs.Option.{option_and_then}
 use Rattle.std.proofs.lemmas.List.{length-map, map-append, take_all, take_more}
@@ -19,6 +19,13 @@ use Rattle.csl_arranging.specs.declared.arranged.ArrangedCite.{ArrangedCite}
 use Rattle.csl_arranging.specs.declared.request.CiteRequest.{CiteRequest}
 use Rattle.csl_arranging.specs.declared.request.FinalCite.{FinalCite}
 use Rattle.csl_arranging.specs.declared.request.RequestedCite.{RequestedCite}
+
+-- what a call gave that is returned as it is
+pub same-items : {X V E : Type 0} (r : Result V E) (items : V → List X) (xs ys : List X) → xs ≡ ys → IfOk r (λ v. items v ≡ xs) → IfOk r (λ v. items v ≡ ys)
+same-items r items xs ys is = subst (λ l. IfOk r (λ v. items v ≡ l)) is
+
+pub in-both : {A B C : Type 0} (f : A → B → C) {a x : A} {b y : B} → a ≡ x → b ≡ y → f a b ≡ f x y
+in-both f p q = λ i. f (p i) (q i)
 
 -- requests in their final order, and as csl_notes takes them
 module _ {L : Type 0} where

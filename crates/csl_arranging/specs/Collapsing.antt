@@ -42,7 +42,7 @@ unranged = record { is_inner = false; is_cut = false; delimiter = Delimiter.Usua
 
 -- what blocks say goes with what ranges and stretches say, which goes first
 abbrev pub years_with_ranges : List BlockYear → List CollapsedCite → List CollapsedYear
-years_with_ranges years ranges = map (λ p. collapsed p.0 p.1) (zip years ranges)
+years_with_ranges by_blocks by_ranges = map (λ p. collapsed p.0 p.1) (zip by_blocks by_ranges)
 
 module _ {L : Type 0} where
   abbrev pub block_cite : PositionedCite L → BlockCite

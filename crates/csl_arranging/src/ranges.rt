@@ -1,5 +1,5 @@
 //! What ranges and stretches say of cites.
-ghost use Rattle.std.specs.Prelude.{◌≡◌, IfOk, map};
+ghost use Rattle.std.specs.Prelude.{◌≡◌, IfOk, map, slice_get};
 ghost use Rattle.csl_runs.specs.NumberRanges.{number_ranges};
 ghost use Rattle.csl_runs.specs.SuffixStretches.{suffix_stretches};
 ghost use Rattle.csl_arranging.specs.Collapsing.{cite_ranges, fits_range, numbered_cite, range_number, suffixed_cite, unranged};
@@ -19,12 +19,19 @@ fn fits_range<L>(cite: &RequestedCite<L>) -> bool
     cite.shows_number && !cite.hidden && cite.locator.is_none() && cite.apart.is_none()
 }
 
+/// The number of an entry, if it is there.
+fn number_of(numbers: &[usize], entry: usize) -> Option<usize>
+    ensures { result ≡ slice_get numbers.now entry }
+{
+    numbers.get(entry).copied()
+}
+
 /// The number of a cite, if it may be in a range of numbers.
 fn range_number<L>(numbers: &[usize], cite: &RequestedCite<L>) -> Option<usize>
     ensures { result ≡ range_number numbers.now cite.now }
 {
     if fits_range(cite) {
-        numbers.get(cite.entry).copied()
+        number_of(numbers, cite.entry)
     } else {
         None
     }

@@ -8,8 +8,8 @@ pub loop-request-preserved : goal.loop-request-preserved
 loop-request-preserved g c =
     let m = c.request-item.result in
     let is = c.in_ok-final_cites.ensures ∙ ap (final_cites m.facts.style) c.deref.ensures.value in
-    mapped-next request_view seen_final c.args.requests.now c.loop-request.request-index m c.loop-request-test.true c.request-item.is c.loop-request.found.items c.push.new.self.items _
-    c.loop-request.invariant (λ i. record { facts = m.facts; cites = is i }) c.in_ok-push.ensures.items
+    mapped-next request_view seen_final c.args.requests.now c.loop-request.request-index m c.loop-request-test.true c.request-item.is c.loop-request.found.items c.push.new.self.items
+    (record { facts = m.facts; cites = c.in_ok-final_cites.field-0 }) c.loop-request.invariant (λ i. record { facts = m.facts; cites = is i }) c.in_ok-push.ensures.items
 
 pub returns : goal.returns
 returns g c =

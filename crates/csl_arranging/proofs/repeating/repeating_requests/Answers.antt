@@ -9,8 +9,8 @@ pub loop-request-preserved : goal.loop-request-preserved
 loop-request-preserved g c =
     let m = c.request-item.result in
     let is = c.in_ok-repeating_cites.ensures ∙ ap (map repeating_cite) c.deref.ensures.value in
-    mapped-next repeating_view seen_repeating c.args.requests.now c.loop-request.request-index m c.loop-request-test.true c.request-item.is c.loop-request.found.items c.push.new.self.items _
-    c.loop-request.invariant (λ i. record { note = m.facts.note; cites = is i }) c.in_ok-push.ensures.items
+    mapped-next repeating_view seen_repeating c.args.requests.now c.loop-request.request-index m c.loop-request-test.true c.request-item.is c.loop-request.found.items c.push.new.self.items
+    (record { note = m.facts.note; cites = c.in_ok-repeating_cites.field-0 }) c.loop-request.invariant (λ i. record { note = m.facts.note; cites = is i }) c.in_ok-push.ensures.items
 
 pub returns : goal.returns
 returns g c =
