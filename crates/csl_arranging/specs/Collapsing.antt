@@ -28,10 +28,7 @@ collapse_of facts = if facts.has_purpose then None else facts.style.collapse
 
 abbrev pub is_year : Option Collapse → Bool
 is_year (Some Collapse.Year) = true
-is_year (Some Collapse.YearSuffix) = false
-is_year (Some Collapse.YearSuffixRanged) = false
-is_year (Some Collapse.CitationNumber) = false
-is_year None = false
+is_year _ = false
 
 abbrev pub year_collapse : CiteStyle → Option Collapse → YearCollapse
 year_collapse style collapse = record {
@@ -45,7 +42,7 @@ unranged = record { is_inner = false; is_cut = false; delimiter = Delimiter.Usua
 
 -- what blocks say goes with what ranges and stretches say, which goes first
 abbrev pub years_with_ranges : List BlockYear → List CollapsedCite → List CollapsedYear
-years_with_ranges years ranges = map (λ p. collapsed p.0 p.1) (zip years ranges)
+years_with_ranges by_blocks by_ranges = map (λ p. collapsed p.0 p.1) (zip by_blocks by_ranges)
 
 module _ {L : Type 0} where
   abbrev pub block_cite : PositionedCite L → BlockCite
@@ -103,8 +100,7 @@ module _ {L : Type 0} where
       suffix_stretches false (map suffixed_cite cites)
   cite_ranges (Some Collapse.YearSuffixRanged) numbers cites =
       suffix_stretches true (map suffixed_cite cites)
-  cite_ranges (Some Collapse.Year) numbers cites = map (λ c. unranged) cites
-  cite_ranges None numbers cites = map (λ c. unranged) cites
+  cite_ranges _ numbers cites = map (λ c. unranged) cites
 
   -- what collapsing makes of each cite, where entries have these numbers
   abbrev pub collapsed_cites :

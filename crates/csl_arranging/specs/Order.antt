@@ -15,16 +15,18 @@ abbrev pub collapses_years : Option Collapse → Bool
 collapses_years (Some Collapse.Year) = true
 collapses_years (Some Collapse.YearSuffix) = true
 collapses_years (Some Collapse.YearSuffixRanged) = true
-collapses_years (Some Collapse.CitationNumber) = false
-collapses_years None = false
+collapses_years _ = false
 
 -- a style brings cites with the same names together
 abbrev pub is_grouped : CiteStyle → Bool
 is_grouped style = style.has_group_delimiter || collapses_years style.collapse
 
--- each cite where it was handed in, and a block of its own
+-- where it was handed in, and a block of its own
+abbrev pub alone : ℕ → PlacedCite
+alone k = record { place = k; block = k }
+
 abbrev pub handed_order : ℕ → List PlacedCite
-handed_order count = map (λ k. record { place = k; block = k }) (range_with_len 0 count)
+handed_order count = map alone (range_with_len 0 count)
 
 module _ {L : Type 0} where
   -- a hidden cite is grouped as if it had no names
@@ -35,9 +37,12 @@ module _ {L : Type 0} where
   final_order style cites = if is_grouped style then block_order (map grouped_cite cites)
       else handed_order (length cites)
 
+  abbrev pub with_place : PlacedCite → RequestedCite L → FinalCite L
+  with_place p c = record { placed = p; cite = c }
+
   -- the cite at a place of an order
   abbrev pub final_cite : List (RequestedCite L) → PlacedCite → Option (FinalCite L)
-  final_cite cites p = option_map (λ c. record { placed = p; cite = c }) (slice_get cites p.place)
+  final_cite cites p = option_map (with_place p) (slice_get cites p.place)
 
   abbrev pub cites_in_order : List (RequestedCite L) → List PlacedCite → List (FinalCite L)
   cites_in_order cites = filter_map (final_cite cites)

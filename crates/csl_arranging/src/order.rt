@@ -110,9 +110,10 @@ fn cites_in_order<L: Copy>(
 {
     let mut found = Vec::with_capacity(alloc, order.len())?;
     for placed in order {
+        let cite = cites[placed.place];
         found.push(FinalCite {
             placed: *placed,
-            cite: cites[placed.place],
+            cite,
         })?;
     }
     Ok(found)

@@ -1,5 +1,7 @@
 //! What ranges and stretches say of cites.
-ghost use Rattle.std.specs.Prelude.{◌≡◌, ◌||◌, IfOk, is_some, map, not, slice_get};
+ghost use Rattle.std.specs.Prelude.{◌≡◌, IfOk, map, slice_get};
+ghost use Rattle.csl_runs.specs.NumberRanges.{number_ranges};
+ghost use Rattle.csl_runs.specs.SuffixStretches.{suffix_stretches};
 ghost use Rattle.csl_arranging.specs.Collapsing.{cite_ranges, fits_range, numbered_cite, range_number, suffixed_cite, unranged};
 
 use crate::positioned::{PositionedCite, can_be_cut};
@@ -17,12 +19,19 @@ fn fits_range<L>(cite: &RequestedCite<L>) -> bool
     cite.shows_number && !cite.hidden && cite.locator.is_none() && cite.apart.is_none()
 }
 
+/// The number of an entry, if it is there.
+fn number_of(numbers: &[usize], entry: usize) -> Option<usize>
+    ensures { result ≡ slice_get numbers.now entry }
+{
+    numbers.get(entry).copied()
+}
+
 /// The number of a cite, if it may be in a range of numbers.
 fn range_number<L>(numbers: &[usize], cite: &RequestedCite<L>) -> Option<usize>
     ensures { result ≡ range_number numbers.now cite.now }
 {
     if fits_range(cite) {
-        numbers.get(cite.entry).copied()
+        number_of(numbers, cite.entry)
     } else {
         None
     }
@@ -94,6 +103,29 @@ fn unranged_cites<L>(
     cites.iter().map(|_cite| unranged()).collect(alloc)
 }
 
+fn ranges_of_numbers<L>(
+    alloc: Global,
+    numbers: &[usize],
+    cites: &[PositionedCite<L>],
+) -> Result<Vec<CollapsedCite>, AllocError>
+    ensures { IfOk result
+        (λ v. v.items ≡ number_ranges (map (numbered_cite numbers.now) cites.now)) }
+{
+    let numbered = numbered_cites(alloc, numbers, cites)?;
+    number_ranges(alloc, &numbered)
+}
+
+fn stretches_of_suffixes<L>(
+    alloc: Global,
+    ranges: bool,
+    cites: &[PositionedCite<L>],
+) -> Result<Vec<CollapsedCite>, AllocError>
+    ensures { IfOk result (λ v. v.items ≡ suffix_stretches ranges (map suffixed_cite cites.now)) }
+{
+    let suffixed = suffixed_cites(alloc, cites)?;
+    suffix_stretches(alloc, ranges, &suffixed)
+}
+
 /// What ranges of numbers (`csl_runs::numbers::number_ranges`) or stretches of suffixes
 /// (`csl_runs::suffixes::suffix_stretches`) say of the cites of a request, where these collapse.
 pub(crate) fn cite_ranges<L>(
@@ -105,18 +137,9 @@ pub(crate) fn cite_ranges<L>(
     ensures { IfOk result (λ v. v.items ≡ cite_ranges collapse numbers.now cites.now) }
 {
     match collapse {
-        Some(Collapse::CitationNumber) => {
-            let numbered = numbered_cites(alloc, numbers, cites)?;
-            number_ranges(alloc, &numbered)
-        }
-        Some(Collapse::YearSuffix) => {
-            let suffixed = suffixed_cites(alloc, cites)?;
-            suffix_stretches(alloc, false, &suffixed)
-        }
-        Some(Collapse::YearSuffixRanged) => {
-            let suffixed = suffixed_cites(alloc, cites)?;
-            suffix_stretches(alloc, true, &suffixed)
-        }
+        Some(Collapse::CitationNumber) => ranges_of_numbers(alloc, numbers, cites),
+        Some(Collapse::YearSuffix) => stretches_of_suffixes(alloc, false, cites),
+        Some(Collapse::YearSuffixRanged) => stretches_of_suffixes(alloc, true, cites),
         Some(Collapse::Year) => unranged_cites(alloc, cites),
         None => unranged_cites(alloc, cites),
     }

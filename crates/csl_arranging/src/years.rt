@@ -1,5 +1,6 @@
 //! What blocks say of cites, and what is left out of them.
 ghost use Rattle.std.specs.Prelude.{◌≡◌, IfOk, map};
+ghost use Rattle.csl_blocks.specs.Years.{years};
 ghost use Rattle.csl_arranging.specs.Collapsing.{block_cite, block_years, is_year, whole_in_block, year_collapse};
 
 use crate::order::collapses_years;
@@ -64,6 +65,18 @@ fn whole_in_blocks<L>(
     cites.iter().map(|cite| whole_in_block(cite)).collect(alloc)
 }
 
+/// What years of blocks make of cites, where they collapse in this way.
+fn collapsed_years<L>(
+    alloc: Global,
+    how: YearCollapse,
+    cites: &[PositionedCite<L>],
+) -> Result<Vec<BlockYear>, AllocError>
+    ensures { IfOk result (λ v. v.items ≡ years (map block_cite cites.now) how) }
+{
+    let blocks = block_cites(alloc, cites)?;
+    years_of_blocks(alloc, how, &blocks)
+}
+
 /// What blocks say of the cites of a request: where years collapse, what these make of them
 /// (`csl_blocks::years::years_of_blocks`); else that the cite group delimiter stands before each
 /// that isn't the first of its block.
@@ -76,8 +89,7 @@ pub(crate) fn block_years<L>(
     ensures { IfOk result (λ v. v.items ≡ block_years style collapse cites.now) }
 {
     if collapses_years(collapse) {
-        let blocks = block_cites(alloc, cites)?;
-        years_of_blocks(alloc, year_collapse(style, collapse), &blocks)
+        collapsed_years(alloc, year_collapse(style, collapse), cites)
     } else {
         whole_in_blocks(alloc, cites)
     }
