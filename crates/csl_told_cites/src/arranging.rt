@@ -1,7 +1,9 @@
 //! Cites as they are arranged in the end (CSL 1.0.2, position, citation number and cite
 //! collapsing).
-ghost use Rattle.std.specs.Prelude.{◌≡◌, map, option_map, slice_index_or};
+ghost use Rattle.std.specs.Prelude.{◌≡◌, ◌||◌, codes, map, option_map, slice_index_or, unwrap_or};
 ghost use Rattle.std.specs.List.{zip};
+ghost use Rattle.std.specs.Option.{option_or};
+ghost use Rattle.csl_style_values.specs.ElementView.{text_view};
 ghost use Rattle.csl_style_values.specs.StyleView.{citation_view};
 ghost use Rattle.csl_arranging.specs.Requests.{request_view, requests_view};
 ghost use Rattle.csl_passes.specs.RendersView.{item_view, items_view, render_view, renders_view};
@@ -45,19 +47,47 @@ fn verdict_of(cut: YearCut) -> Option<CollapseVerdict>
     }
 }
 
+/// The cite group delimiter of a style; a comma where it names none.
+fn group_delimiter(citation: &Citation) -> &str
+    ensures { result.now
+        ≡ unwrap_or (citation_view citation.now).cite_group_delimiter (codes ", ") }
+{
+    match &citation.cite_group_delimiter {
+        Some(delimiter) => delimiter.as_str(),
+        None => ", ",
+    }
+}
+
+/// A delimiter of a style; the layout's where it names none.
+fn or_of_layout<'a>(citation: &'a Citation, delimiter: &'a Option<String>) -> Option<&'a str>
+    ensures { option_map (λ s. s.now) result
+        ≡ option_or (text_view delimiter.now) (citation_view citation.now).layout.delimiter }
+{
+    let layout = citation.layout.delimiter.as_deref();
+    delimiter.as_deref().or(layout)
+}
+
 /// What stands before a cite in place of the layout's delimiter.
 #[tactic(auto, using(crate::proofs::Texts::en_dash_bytes))]
 fn delimiter_of(citation: &Citation, delimiter: YearDelimiter) -> Option<&str>
     ensures { option_map (λ s. s.now) result ≡ delimiter_of (citation_view citation.now) delimiter }
 {
-    let layout = citation.layout.delimiter.as_deref();
     match delimiter {
         YearDelimiter::Layout => None,
-        YearDelimiter::Group => Some(citation.cite_group_delimiter.as_deref().unwrap_or(", ")),
-        YearDelimiter::AfterCollapse => citation.after_collapse_delimiter.as_deref().or(layout),
-        YearDelimiter::YearSuffix => citation.year_suffix_delimiter.as_deref().or(layout),
+        YearDelimiter::Group => Some(group_delimiter(citation)),
+        YearDelimiter::AfterCollapse => {
+            or_of_layout(citation, &citation.after_collapse_delimiter)
+        }
+        YearDelimiter::YearSuffix => or_of_layout(citation, &citation.year_suffix_delimiter),
         YearDelimiter::Dash => Some("–"),
     }
+}
+
+/// Whether a cite is hidden that its caller hides or doesn't, and that is inside a range or isn't.
+fn is_hidden(hidden: bool, is_inner: bool) -> bool
+    ensures { result ≡ (hidden || is_inner) }
+{
+    hidden || is_inner
 }
 
 /// The number of an entry; 0 where there is none.
@@ -82,7 +112,7 @@ fn arrange_cite<'a, T, P>(
 {
     cite.cite_props.speculative.ibid = ibid_of(arranged.position);
     cite.cite_props.speculative.citation_number = number;
-    cite.hidden = cite.hidden || arranged.is_inner;
+    cite.hidden = is_hidden(cite.hidden, arranged.is_inner);
     cite.delim_override = delimiter_of(citation, arranged.delimiter);
     cite.collapse_verdict = verdict_of(arranged.cut);
 }

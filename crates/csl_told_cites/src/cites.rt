@@ -32,6 +32,7 @@ use csl_writers::pushed::push;
 use std::alloc::{AllocError, Global};
 
 /// What is known of the mentions of all entries once they are told apart, and of the entries.
+#[derive(Clone, Copy)]
 pub struct ToldEntries<'t> {
     /// By mention, what tells it apart.
     pub states: &'t [MentionState],

@@ -18,8 +18,8 @@ loop-cite-init g c = record {
 
 pub loop-cite-preserved : goal.loop-cite-preserved
 loop-cite-preserved g c = record {
-  made = told-next (told_view c.args.told.now) (request_view c.args.request.now) c.args.notes.now c.args.cites.now c.loop-cite.cite-index c.loop-cite-item.result c.loop-cite-test.true
-      c.loop-cite-item.is (items_view c.loop-cite.render.items.items) (items_view c.push_told.new.found.items) c.loop-cite.invariant.made c.in_ok-push_told.ensures;
+  made = told-next (told_view c.args.told.now) (request_view c.args.request.now) c.args.notes.now c.args.cites.now c.loop-cite.cite-index c.cite-item.result c.loop-cite-test.true
+      c.cite-item.is (items_view c.loop-cite.render.items.items) (items_view c.push_told.new.found.items) c.loop-cite.invariant.made c.in_ok-push_told.ensures;
   same = c.loop-cite.invariant.same;
 }
 
