@@ -1,6 +1,7 @@
 -- Members of two lists at one index.
-use Rattle.std.proofs.Common.{◌≡◌, ℕ, zero, suc, ◌<◌, List, [], ◌∷◌, length, get_or, sym, ◌∙◌, arith}
+use Rattle.std.proofs.Common.{◌≡◌, ℕ, zero, suc, ◌<◌, List, [], ◌∷◌, Option, None, Some, length, get_or, refl, ap, sym, ◌∙◌, arith}
 use Rattle.std.specs.List.{zip}
+use Rattle.std.specs.Prelude.{option_map}
 use Rattle.std.proofs.lemmas.Slice.Zip.{get_or-zip}
 
 pub pair-within : {A B : Type 0} (ks : List A) (vs : List B) (k : ℕ) → k < length ks → k < length vs → k < length (zip ks vs)
@@ -12,3 +13,12 @@ pair-within (a ∷ ks) (b ∷ vs) (suc k) h g = let further = pair-within ks vs 
 pub pair-here : {A B : Type 0} (ks : List A) (vs : List B) (k : ℕ) (a : A) (b : B) → k < length ks → k < length vs → a ≡ get_or ks k a → b ≡ get_or vs k b
     → (a, b) ≡ get_or (zip ks vs) k (a, b)
 pair-here ks vs k a b h g here there = (λ i. (here i, there i)) ∙ sym (get_or-zip ks vs k (a, b) h g)
+
+-- what is found, beside something else
+pub beside : {A B C : Type 0} (o : Option A) (f : A → B) (r : Option B) (m : C) → r ≡ option_map f o → option_map (λ a. (f a, m)) o ≡ option_map (λ b. (b, m)) r
+beside None f r m e = ap (option_map (λ b. (b, m))) (sym e)
+beside (Some a) f r m e = ap (option_map (λ b. (b, m))) (sym e)
+
+pub twice : {A B C : Type 0} (o : Option A) (f : A → B) (m : C) → option_map (λ b. (b, m)) (option_map f o) ≡ option_map (λ a. (f a, m)) o
+twice None f m = refl
+twice (Some a) f m = refl

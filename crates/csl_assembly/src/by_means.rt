@@ -115,8 +115,9 @@ fn items_by_means<T: EntryLike, P: Drop, W: CiteWriter<T, P>>(
 {
     let mut items = Vec::with_capacity(alloc, firsts.len())?;
     for (k, place) in firsts.iter().enumerate() {
+        let own = means[k];
         if let Some(first) = cite_at(cites, *place) {
-            let item = item_by_means(alloc, wanted, first, means[k], writer, counter)?;
+            let item = item_by_means(alloc, wanted, first, own, writer, counter)?;
             push(&mut items, item)?;
         }
     }

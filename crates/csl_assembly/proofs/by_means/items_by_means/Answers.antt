@@ -17,7 +17,7 @@ use Rattle.csl_assembly.specs.BibliographyItems.{item_by}
 use Rattle.csl_assembly.specs.ByMeans.{cite_with_means, task_by}
 use Rattle.csl_assembly.specs.declared.by_means.ItemMeans.{ItemMeans}
 use Rattle.csl_assembly.proofs.Asked.{asked-found, asked-none, made-more, made-none, written_by_same}
-use Rattle.csl_assembly.proofs.Paired.{pair-here, pair-within}
+use Rattle.csl_assembly.proofs.Paired.{beside, pair-here, pair-within, twice}
 use Rattle.csl_assembly.proofs.by_means.items_by_means.Goals.{in-Some+in_ok-item+in_ok-push, in_default}
 use Rattle.csl_assembly.proofs.by_means.items_by_means.Goals as goal
 
@@ -33,7 +33,12 @@ loop-k-preserved g c =
     let means_within : k < length means = subst (λ n. k < n) (sym c.requires) first_within in
     let within = pair-within firsts means k first_within means_within in
     let place : Place = c.index-firsts-k.result in
-    let found_at : Place × ItemMeans → Option (ItemRender E P × ItemMeans) = cite_with_means (renders_view c.args.cites.now) in
+    let own : ItemMeans = c.index-means-k.result in
+    let here = pair-here firsts means k place own first_within means_within c.index-firsts-k.is c.index-means-k.is in
+    let cites = renders_view c.args.cites.now in
+    let found_at : Place × ItemMeans → Option (ItemRender E P × ItemMeans) = cite_with_means cites in
+    let found : found_at (place, own) ≡ option_map (λ i. (item_view i.now, own)) c.cite_at.result =
+    beside (cite_at cites place) (λ r. r.1) (option_map (λ i. item_view i.now) c.cite_at.result) own c.cite_at.ensures ∙ twice c.cite_at.result (λ i. item_view i.now) own in
     let source = wanted_source (wanted_view c.args.wanted.wanted.now) in
     let old = desk (g.W.CiteWriter.state c.args.writer.now) c.args.counter.now in
     let before = desk (g.W.CiteWriter.state c.loop-k.writer) c.loop-k.counter in
@@ -43,4 +48,25 @@ loop-k-preserved g c =
     let written = writing_of g.T.EntryLike.answers old.writer in
     let writes = writing_of g.T.EntryLike.answers before.writer in
     let write : Writing E P → ItemRender E P × ItemMeans → Item = λ v p. item_by v (task_by source p) in
-    search rules
+    elim c.match-cite_at.branch [
+      | in-Some+in_ok-item+in_ok-push w ↦
+          let first : ItemRender E P × ItemMeans = (item_view w.in-Some.first.now, own) in
+          let there : found_at (place, own) ≡ Some first = found ∙ ap (option_map (λ i. (item_view i.now, own))) w.in-Some.is in
+          let made : Item = (w.in_ok-item.item.0, string_bytes w.in_ok-item.item.1) in
+          let item : made ≡ write written first =
+          written_by_same (λ (v : Writing E P). write v first) writes written made (writes-same g.T.EntryLike.answers asked old before was.asked) w.in_ok-item.ensures.item in
+          record {
+            items = made-more found_at (write written) pairs k (place, own) (place, own) within here (rendered_items_view c.loop-k.items.items) _ was.items first _ there
+                (ap (λ v. rendered_items_view v.items) w.items-is ∙ ap rendered_items_view w.in_ok-push.ensures
+                ∙ map-append (λ p. (p.0, string_bytes p.1)) c.loop-k.items.items (w.in_ok-item.item ∷ []) ∙ ap (λ z. rendered_items_view c.loop-k.items.items ++ z ∷ []) item);
+            asked = (λ i. desk (g.W.CiteWriter.state (w.writer-is i)) (w.counter-is i))
+                ∙ asked-found pairs k (place, own) (place, own) within here task_of old before _ found_at first there was.asked w.in_ok-item.ensures.asked;
+          }
+      | in_default w ↦
+          let none : found_at (place, own) ≡ None = found ∙ ap (option_map (λ i. (item_view i.now, own))) w.in_default.is in
+          record {
+            items = ap (λ v. rendered_items_view v.items ++ map (write written) (filter_map found_at (drop (k + 1) pairs))) w.items-is
+                ∙ made-none found_at (write written) pairs k (place, own) (place, own) within here (rendered_items_view c.loop-k.items.items) _ was.items none;
+            asked = (λ i. desk (g.W.CiteWriter.state (w.writer-is i)) (w.counter-is i)) ∙ asked-none pairs k (place, own) (place, own) within here task_of old before before found_at none was.asked;
+          }
+    ]
