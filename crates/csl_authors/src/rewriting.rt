@@ -53,13 +53,13 @@ fn write_names_in(
     match child {
         ElemChild::Elem(elem) => {
             if !is_name(elem) {
-                return write_names(alloc, substitute, count, &mut elem.children);
+                write_names(alloc, substitute, count, &mut elem.children)
+            } else if count == 0 {
+                Ok(0)
+            } else {
+                elem.children = text_alone(alloc, substitute)?;
+                Ok(count - 1)
             }
-            if count == 0 {
-                return Ok(0);
-            }
-            elem.children = text_alone(alloc, substitute)?;
-            Ok(count - 1)
         }
         ElemChild::Text(_) => Ok(count),
         ElemChild::Markup(_) => Ok(count),
