@@ -13,10 +13,10 @@ write_names-loop-i-preserved t c =
     let here = c.index_mut.ensures.value ∙ l.unvisited i y (omega arith) in
     let inside : i < length ys = omega arith in
     let within : i < length xs = omega arith in
-    let fewer = c.in_ok-write_names_in.ensures.left in
+    let fewer = c.in_ok-left.ensures.left in
     record {
       same_length = search rules;
       unvisited = search rules;
       left = left-next ys i y inside here c.loop-i.left _ fewer ∙ l.left;
-      written = written-next ys i y inside here c.loop-i.left _ fewer c.args.substitute.now xs c.write_names_in.new.child _ within c.in_ok-write_names_in.ensures.written l.written;
+      written = written-next ys i y inside here c.loop-i.left _ fewer c.args.substitute.now xs c.write_names_in.new.child _ within c.in_ok-left.ensures.written l.written;
     }
