@@ -1,5 +1,5 @@
 -- Members of two lists at one index.
-use Rattle.std.proofs.Common.{◌≡◌, ℕ, zero, suc, ◌<◌, List, [], ◌∷◌, Option, None, Some, length, get_or, refl, ap, sym, ◌∙◌, arith}
+use Rattle.std.proofs.Common.{◌≡◌, ℕ, zero, suc, ◌<◌, List, [], ◌∷◌, Option, None, Some, length, get_or, refl, ap, sym, arith}
 use Rattle.std.specs.List.{zip}
 use Rattle.std.specs.Prelude.{option_map}
 use Rattle.std.proofs.lemmas.Slice.Zip.{get_or-zip}
@@ -10,9 +10,8 @@ pair-within (a ∷ ks) [] k h g = absurd (omega (arith, g))
 pair-within (a ∷ ks) (b ∷ vs) zero h g = omega arith
 pair-within (a ∷ ks) (b ∷ vs) (suc k) h g = let further = pair-within ks vs k (omega (arith, h)) (omega (arith, g)) in omega (arith, further)
 
-pub pair-here : {A B : Type 0} (ks : List A) (vs : List B) (k : ℕ) (a : A) (b : B) → k < length ks → k < length vs → a ≡ get_or ks k a → b ≡ get_or vs k b
-    → (a, b) ≡ get_or (zip ks vs) k (a, b)
-pair-here ks vs k a b h g here there = (λ i. (here i, there i)) ∙ sym (get_or-zip ks vs k (a, b) h g)
+pub pair-here : {A B : Type 0} (ks : List A) (vs : List B) (k : ℕ) (d : A) (e : B) → k < length ks → k < length vs → (get_or ks k d, get_or vs k e) ≡ get_or (zip ks vs) k (d, e)
+pair-here ks vs k d e h g = sym (get_or-zip ks vs k (d, e) h g)
 
 -- what is found, beside something else
 pub beside : {A B C : Type 0} (o : Option A) (f : A → B) (r : Option B) (m : C) → r ≡ option_map f o → option_map (λ a. (f a, m)) o ≡ option_map (λ b. (b, m)) r
