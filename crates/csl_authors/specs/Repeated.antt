@@ -24,13 +24,13 @@ before_at items (suc k) = option_flatten (slice_get items k)
 module _ {N P : Type 0} (same_name : N → N → Bool) (same_persons : P → P → Bool) where
   -- an item has names, and they and its persons are those of another
   abbrev pub same_authors : ItemNames N P → ItemNames N P → Bool
-  same_authors before own = not (length own.names.items == 0)
-      && pointwise same_name before.names.items own.names.items
+  same_authors before own = not (length own.names == 0)
+      && pointwise same_name before.names own.names
       && same_persons before.persons own.persons
 
   -- how many names at the beginning are equal
   abbrev pub equal_at_first : ItemNames N P → ItemNames N P → ℕ
-  equal_at_first before own = common_prefix_len same_name before.names.items own.names.items
+  equal_at_first before own = common_prefix_len same_name before.names own.names
 
   -- which names of an item repeat those of another, by each rule
   abbrev pub repeated_names : SubsequentAuthorSubstituteRule → ItemNames N P → ItemNames N P
@@ -38,7 +38,7 @@ module _ {N P : Type 0} (same_name : N → N → Bool) (same_persons : P → P �
   repeated_names CompleteAll before own = if same_authors before own then Substituted.Together
       else Substituted.Nothing
   repeated_names CompleteEach before own =
-      if same_authors before own then leading (length own.names.items) else Substituted.Nothing
+      if same_authors before own then leading (length own.names) else Substituted.Nothing
   repeated_names PartialEach before own = leading (equal_at_first before own)
   repeated_names PartialFirst before own = first_alone (equal_at_first before own)
 

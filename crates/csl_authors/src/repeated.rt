@@ -5,6 +5,7 @@ ghost use Rattle.std.specs.List.{common_prefix_len};
 ghost use Rattle.std.specs.Option.{option_copied};
 ghost use Rattle.csl_authors.specs.Repeated.{against, before_at, first_alone, leading, repeated, repeated_names, same_authors};
 
+use csl_lists::seq::Seq;
 use csl_style_values::style::SubsequentAuthorSubstituteRule;
 use std::alloc::{AllocError, Global};
 
@@ -12,7 +13,7 @@ use std::alloc::{AllocError, Global};
 #[derive(Drop)]
 pub struct ItemNames<N, P> {
     /// The names that are shown, in order.
-    pub names: Vec<N>,
+    pub names: Seq<N>,
     /// The persons that the element was written for, those that aren't shown among them.
     pub persons: P,
 }
@@ -91,13 +92,13 @@ fn repeated_names<N: PartialEq, P: PartialEq>(
             Substituted::Together
         }
         SubsequentAuthorSubstituteRule::CompleteEach if same_authors(before, own) => {
-            leading(own.names.len())
+            leading(own.names.as_slice().len())
         }
         SubsequentAuthorSubstituteRule::PartialEach => {
-            leading(equal_at_first(&before.names, &own.names))
+            leading(equal_at_first(before.names.as_slice(), own.names.as_slice()))
         }
         SubsequentAuthorSubstituteRule::PartialFirst => {
-            first_alone(equal_at_first(&before.names, &own.names))
+            first_alone(equal_at_first(before.names.as_slice(), own.names.as_slice()))
         }
         _ => Substituted::Nothing,
     }
@@ -107,9 +108,7 @@ fn repeated_names<N: PartialEq, P: PartialEq>(
 fn same_authors<N: PartialEq, P: PartialEq>(before: &ItemNames<N, P>, own: &ItemNames<N, P>) -> bool
     ensures { result ≡ same_authors N.eq P.eq before.now own.now }
 {
-    !own.names.is_empty()
-        && before.names.as_slice() == own.names.as_slice()
-        && before.persons == own.persons
+    !own.names.as_slice().is_empty() && before.names == own.names && before.persons == own.persons
 }
 
 /// How many names at the beginning are equal.
