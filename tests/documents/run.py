@@ -12,10 +12,11 @@ refused is wrong, which faults.txt has for most of them, and nothing of the othe
 likewise, answers each document that has an answer once more from a table of what its styles write; with any one thing taken out
 exactly that has to be missing, and a table that is empty at first has to be filled in at most three calls more than rounds mark.
 Where there is a NAME.context, crates/test_contexts prints what calls of a writing context give in the document's first style, and
-where there is a NAME.cites, what calls that render its entries give. It
-refuses each growth of memory in turn (refuse.c, for which a C compiler must be there), in all four programs; each such sweep is for
-some calls, and fails where one of them met no refusal. Without the library jsonschema the documents aren't held to the schema: a line
-says so, and where the environment has CI set, it fails.
+where there is a NAME.cites, what calls that render its entries give. crates/test_rows, which has cases that no document can
+express, has to say of each that it is as it should be. It refuses each growth of memory in turn (refuse.c, for which a C compiler
+must be there), in all of these programs but the last; each such sweep is for some calls, and fails where one of them met no
+refusal. Without the library jsonschema the documents aren't held to the schema: a line says so, and where the environment has CI
+set, it fails.
 run.py PROGRAM FOLDER..: runs it on the documents of these folders, and does nothing else.
 
 A document is NAME.json. NAME.txt is what it must print; where the status isn't 0, NAME.status has it, and nothing is
@@ -230,6 +231,38 @@ def tests_of_contexts(contexts, bases):
     """What crates/test_contexts is to do with the documents that tell what calls of a writing context give, or calls that render."""
     asked = [(way, it) for way in ('context', 'cites') for it in bases if os.path.isfile(it + '.' + way)]
     return [('%s: %s' % (way, name_of(it)), by_calls, contexts, way, it, 0, read(it + '.' + way)) for way, it in asked]
+
+
+# What crates/test_rows says of a case, and its cases, in the order in which it runs them.
+HOLDS = 'as it should be'
+CASES = """
+pieces_and_marks renders_are_counted initials_of_given_names texts_are_copied lists_are_copied pieces_are_copied
+equal_entries_are_one note_numbers_in_notes cites_are_marked numbers_have_entries hidden_numbers_are_read
+suffixes_have_letters writes_at_lent_places prepared_answers_alike years letters small_values properties_are_compared
+locators_differ_by_kind shrinks_at_the_top
+""".split()
+
+
+def case(rows, name):
+    """The program of cases says of this one that it is as it should be."""
+    told = dict(it.split(': ', 1) for it in ended(rows)[1].decode().splitlines())
+    if told.get(name) != HOLDS:
+        raise Failed(told.get(name, 'nothing was said of it'))
+
+
+def cases_alone(rows):
+    """It says this of each case once and of nothing else, and ends well."""
+    status, out, error = ended(rows)
+    if (status, error) != (0, b''):
+        raise Failed('status %d, and standard error %r' % (status, shortened(error)))
+    wanted_text = ''.join('%s: %s\n' % (it, HOLDS) for it in CASES).encode()
+    if out != wanted_text:
+        raise Failed(difference(wanted_text, out))
+
+
+def tests_of_cases(rows):
+    """What crates/test_rows is to say."""
+    return [('cases', cases_alone, rows), *(('case: ' + it, case, rows, it) for it in CASES)]
 
 
 def faults_wanted():
@@ -861,7 +894,7 @@ def main():
     bases = documents()
     tests = [('model: %d random documents' % RANDOM_DOCUMENTS, model, program)]
     tests += [('process: ' + it.__name__.replace('_', ' '), it, program) for it in reversed(PROCESSES)]
-    calls, tables, contexts = (beside(program, it) for it in ('test_calls', 'test_tables', 'test_contexts'))
+    calls, tables, contexts, rows = (beside(program, it) for it in ('test_calls', 'test_tables', 'test_contexts', 'test_rows'))
     try:
         tests += sweeps(program, calls, tables, contexts)
     except Failed as error:
@@ -880,6 +913,7 @@ def main():
         tests += tests_of_contexts(contexts, bases)
     else:
         tests.append(('program of contexts', cannot, 'crates/test_contexts is not built'))
+    tests += tests_of_cases(rows) if rows else [('program of cases', cannot, 'crates/test_rows is not built')]
     tests += [(name_of(it), document, program, it) for it in bases]
     tests += [('model: ' + name_of(it), worked, it) for it in [*folders_of(HERE), ROOT + '/examples']]
     tests.append(('files of the folders', strays))

@@ -3,9 +3,9 @@ how often an entry is asked. A line `shown: ..` of such an edit says what shows 
 
     shown: PROGRAM WAY DOCUMENT..    the program (as test_calls) in this way of its own, on documents of tests/documents: it
                                      ends by itself, and does not print what each of them must
-    shown: CRATE TEST                the test of a crate of tests, which fails
+    shown: PROGRAM CASE              the case that the program (test_rows) runs by itself, of which it says that it isn't as it should be
 
-where `./test` shows that the tree without the edit prints what it must, and passes the tests. `rt try` compiles the edited copy of the crates;
+where `./test` shows that the tree without the edit prints what it must. `rt try` compiles the edited copy of the crates;
 it proves nothing."""
 import os
 import re
@@ -18,7 +18,8 @@ from edits import ROOT, edit_of, edited
 DOCUMENTS = ROOT + '/tests/documents'
 # What a document must print is in NAME.WAY, or else in NAME.txt.
 CASE = re.compile(r'case=(\S+) (.*)')
-TEST = re.compile(r'test (\S+) \.\.\. (\S+)')
+# What a program of cases says of each.
+TOLD, HOLDS = re.compile(r'^(\w+): (.+)$', re.MULTILINE), 'as it should be'
 
 
 def copied(to, edit):
@@ -61,20 +62,20 @@ def is_noticed_by_documents(copy, program, way, documents):
     return all('run=ended' in told.get(name, []) and 'output=expected' not in told[name] for name in names)
 
 
-def is_noticed_by_test(copy, crate, test):
-    """Whether the test of the crate fails."""
-    said = said_by(copy, crate, '--test')
-    ended = dict(TEST.findall(said)).get(test)
-    print('%s: test %s: %s' % (crate, test, ended or said))
-    return ended == 'FAILED'
+def is_noticed_by_case(copy, program, case):
+    """Whether the program runs the case, and says that it isn't as it should be."""
+    said = said_by(copy, program)
+    told = dict(TOLD.findall(said)).get(case)
+    print('%s: %s: %s' % (program, case, told or said))
+    return told not in (None, HOLDS)
 
 
 def is_noticed(key, path):
-    """Whether each test that an edit names notices it."""
+    """Whether all that an edit names notice it."""
     edit = edit_of(path)
     print('== ' + key, flush=True)
     with tempfile.TemporaryDirectory(prefix='proved-') as copy:
         copied(copy, edit)
-        noticed = [is_noticed_by_documents(copy, program, words[0], words[1:]) if len(words) > 1 else is_noticed_by_test(copy, program, *words)
+        noticed = [is_noticed_by_documents(copy, program, words[0], words[1:]) if len(words) > 1 else is_noticed_by_case(copy, program, *words)
                    for program, *words in edit.shown]
     return all(noticed)

@@ -31,7 +31,7 @@ use csl_base::entry::EntryLike;
 use csl_base::seq::Seq;
 use csl_base::style::Bibliography;
 use csl_base::text::Text;
-use csl_lookup::properties::CiteProperties;
+use csl_lookup::properties::{CiteProperties, SpeculativeCiteProperties};
 use csl_passes::acyclic::AcyclicBibliographyRequest;
 use csl_passes::renders::{SpeculativeCiteRender, SpeculativeItemRender};
 use csl_substitution::substitution::substitute_subsequent_authors;
@@ -48,13 +48,17 @@ fn unlocated<'a, T, P: Drop>(
 ) -> Result<CiteProperties<'a, P>, AllocError>
     ensures { IfOk result (λ p. properties_view p ≡ unlocated (item_view item.now)) }
 {
-    let CiteProperties {
-        certain,
-        speculative,
-    } = item.cite_props.clone()?;
+    let speculative = &item.cite_props.speculative;
     Ok(CiteProperties {
-        certain,
-        speculative: speculative.for_bibliography(),
+        certain: item.cite_props.certain,
+        speculative: SpeculativeCiteProperties {
+            locator: None,
+            citation_number: speculative.citation_number,
+            ibid: speculative.ibid,
+            disambiguation: speculative.disambiguation.clone()?,
+            means: speculative.means.clone()?,
+            identifier_usage: speculative.identifier_usage,
+        },
     })
 }
 

@@ -1,5 +1,6 @@
 //! A cite by itself, with pieces of other kinds and a mark for a caller's own locator.
 
+use crate::amiss::Amiss;
 use crate::rings::ringless;
 use csl_base::elem::ElemChild;
 use csl_base::element::{LayoutRenderingElement, TextTarget};
@@ -13,7 +14,6 @@ use csl_writing::counter::Renders;
 use csl_writing::locator::{LocatorPayload, SpecificLocator, TransparentLocator};
 use csl_writing::properties::CiteProperties;
 use std::alloc::{AllocError, Global};
-use std::test::Fail;
 use test_styles::styles::{entry, no_affixes, number, text_element, writing};
 
 type Properties<'a> = CiteProperties<'a, u8>;
@@ -24,7 +24,7 @@ fn cite(
     style: &IndependentStyle,
     cited: &PlainEntry,
     properties: &Properties<'_>,
-) -> Result<Cite, Fail> {
+) -> Result<Cite, Amiss> {
     let context = ringless(alloc, style)?;
     let mut counter = Renders::new();
     Ok(context.do_citation(
@@ -89,16 +89,16 @@ fn locating(alloc: Global) -> Result<IndependentStyle, AllocError> {
     Ok(style)
 }
 
-fn located_of(alloc: Global, style: &IndependentStyle, cited: &PlainEntry) -> Result<Cite, Fail> {
+fn located_of(alloc: Global, style: &IndependentStyle, cited: &PlainEntry) -> Result<Cite, Amiss> {
     let properties = supplement(alloc)?;
     cite(alloc, style, cited, &properties)
 }
 
-fn located_in(alloc: Global, style: &IndependentStyle) -> Result<Cite, Fail> {
+fn located_in(alloc: Global, style: &IndependentStyle) -> Result<Cite, Amiss> {
     located_of(alloc, style, &titled(alloc)?)
 }
 
-fn located(alloc: Global) -> Result<Cite, Fail> {
+fn located(alloc: Global) -> Result<Cite, Amiss> {
     located_in(alloc, &locating(alloc)?)
 }
 
@@ -115,9 +115,7 @@ fn are_pieces_and_a_mark(children: &[ElemChild]) -> bool {
 
 /// The pieces of a text are written together, a formula as markup, and the caller's own locator is
 /// a mark.
-#[test]
-fn pieces_and_marks(rt: HostRuntime) -> Result<(), Fail> {
-    let cite = located(rt.alloc())?;
-    assert!(rt; are_pieces_and_a_mark(cite.children.0.as_slice()));
-    Ok(())
+pub(crate) fn pieces_and_marks(alloc: Global) -> Result<bool, Amiss> {
+    let cite = located(alloc)?;
+    Ok(are_pieces_and_a_mark(cite.children.0.as_slice()))
 }

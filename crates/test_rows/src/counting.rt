@@ -1,5 +1,6 @@
 //! The renderings as an entry sees them: how often it is asked for anything.
 
+use crate::amiss::Amiss;
 use crate::rings::ringless;
 use csl_base::element::{LayoutRenderingElement, TextTarget};
 use csl_base::entry::{Chunk, ChunkKind, ChunkedString, Date, EntryLike, Person, PlainEntry};
@@ -17,7 +18,6 @@ use csl_writing::purpose::CitePurpose;
 use std::alloc::{AllocError, Global};
 use std::cell::Cell;
 use std::convert::Infallible;
-use std::test::Fail;
 use test_styles::styles::{
     author_date, authors, bibliography_of, entry, layout_of, no_affixes, no_formatting,
     text_element,
@@ -163,10 +163,10 @@ fn take<'a>(
     driver: &mut Driver<'a>,
     style: &'a IndependentStyle,
     items: Vec<Item<'a>>,
-) -> Result<(), Fail> {
+) -> Result<(), Amiss> {
     match driver.citation(CitationRequest::from_items(items, style, &[])) {
         Ok(()) => Ok(()),
-        Err(_refused) => Err(Fail::new("the request was refused")),
+        Err(_refused) => Err(Amiss("the request was refused")),
     }
 }
 
@@ -176,7 +176,7 @@ fn cited_thrice<'a>(
     style: &'a IndependentStyle,
     a: &'a Counting,
     b: &'a Counting,
-) -> Result<Driver<'a>, Fail> {
+) -> Result<Driver<'a>, Amiss> {
     let mut driver: Driver<'a> = BibliographyDriver::new(alloc);
     for cited in [a, b, a] {
         let items: Vec<Item<'a>> = vec![in alloc; CitationItem::with_entry(cited)]?;
@@ -186,7 +186,7 @@ fn cited_thrice<'a>(
 }
 
 /// A cite of the entry for each purpose.
-fn each_purpose<'a>(alloc: Global, cited: &'a Counting) -> Result<Vec<Item<'a>>, Fail> {
+fn each_purpose<'a>(alloc: Global, cited: &'a Counting) -> Result<Vec<Item<'a>>, Amiss> {
     let mut items: Vec<Item<'a>> = Vec::new(alloc);
     for purpose in [
         CitePurpose::Author,
@@ -212,7 +212,7 @@ fn render(
     style: &IndependentStyle,
     cited: &Counting,
     part: Part,
-) -> Result<(), Fail> {
+) -> Result<(), Amiss> {
     let context = ringless(alloc, style)?;
     let properties: CiteProperties<'_, Infallible> = CiteProperties::for_sorting(None, 0);
     let mut counter = Renders::new();
@@ -247,7 +247,7 @@ fn render(
 }
 
 /// How often one rendering asks.
-fn asked_by(alloc: Global, style: &IndependentStyle, part: Part) -> Result<u64, Fail> {
+fn asked_by(alloc: Global, style: &IndependentStyle, part: Part) -> Result<u64, Amiss> {
     let cited = titled(alloc, "a", "X", 1999)?;
     render(alloc, style, &cited, part)?;
     Ok(cited.asked.get())
@@ -255,7 +255,7 @@ fn asked_by(alloc: Global, style: &IndependentStyle, part: Part) -> Result<u64, 
 
 /// How often the first rendering and the last one of a cite for each purpose ask. The last one of a
 /// cite of the year alone is its date.
-fn asked_by_purposes(alloc: Global, style: &IndependentStyle) -> Result<u64, Fail> {
+fn asked_by_purposes(alloc: Global, style: &IndependentStyle) -> Result<u64, Amiss> {
     let date = asked_by(alloc, style, Part::Date)?;
     let mut asked = asked_by(alloc, style, Part::Cite(Some(CitePurpose::Year), None))?;
     asked = asked.wrapping_add(date);
@@ -289,9 +289,9 @@ fn renders_of_cites(
     alloc: Global,
     style: &IndependentStyle,
     entries: &[Counting],
-) -> Result<u128, Fail> {
+) -> Result<u128, Amiss> {
     let [a, b] = entries else {
-        return Err(Fail::new("there are other entries"));
+        return Err(Amiss("there are other entries"));
     };
     let driver = cited_thrice(alloc, style, a, b)?;
     let (_answer, account) = driver.finish_counted(BibliographyRequest::new(style, None, &[]))?;
@@ -300,7 +300,7 @@ fn renders_of_cites(
 
 /// Whether three cites of two entries that read alike are rendered nine times: at first, once more
 /// where a letter was added to each, and at last. Each rendering asks for the title and the date.
-fn counts_cites(alloc: Global, style: &IndependentStyle) -> Result<bool, Fail> {
+fn counts_cites(alloc: Global, style: &IndependentStyle) -> Result<bool, Amiss> {
     let cite = asked_by(alloc, style, Part::Cite(None, None))?;
     let entries = all_titled(alloc, &[("a", "X", 1999), ("b", "X", 1999)])?;
     let renders = renders_of_cites(alloc, style, &entries)?;
@@ -312,9 +312,9 @@ fn cited_for_purposes<'a>(
     alloc: Global,
     style: &'a IndependentStyle,
     entries: &'a [Counting],
-) -> Result<Driver<'a>, Fail> {
+) -> Result<Driver<'a>, Amiss> {
     let [a, b, c] = entries else {
-        return Err(Fail::new("there are other entries"));
+        return Err(Amiss("there are other entries"));
     };
     let mut driver = cited_thrice(alloc, style, a, b)?;
     take(&mut driver, style, each_purpose(alloc, c)?)?;
@@ -326,7 +326,7 @@ fn renders_of_all(
     alloc: Global,
     style: &IndependentStyle,
     entries: &[Counting],
-) -> Result<u128, Fail> {
+) -> Result<u128, Amiss> {
     let driver = cited_for_purposes(alloc, style, entries)?;
     let (_answer, account) = driver.finish_full(BibliographyRequest::new(style, None, &[]))?;
     Ok(account.renders)
@@ -334,17 +334,17 @@ fn renders_of_all(
 
 /// How often these are to ask: nine renderings of cites, two for each purpose, and one for each
 /// item of the bibliography, which has the key besides.
-fn asked_by_all(alloc: Global, style: &IndependentStyle) -> Result<u64, Fail> {
+fn asked_by_all(alloc: Global, style: &IndependentStyle) -> Result<u64, Amiss> {
     let cite = asked_by(alloc, style, Part::Cite(None, None))?;
     if asked_by(alloc, style, Part::Item)? != 1 {
-        return Err(Fail::new("an item asks for more than its title"));
+        return Err(Amiss("an item asks for more than its title"));
     }
     let asked = cite.wrapping_mul(9).wrapping_add(3 * (1 + 1));
     Ok(asked.wrapping_add(asked_by_purposes(alloc, style)?))
 }
 
 /// Whether they ask so often.
-fn counts_all(alloc: Global, style: &IndependentStyle) -> Result<bool, Fail> {
+fn counts_all(alloc: Global, style: &IndependentStyle) -> Result<bool, Amiss> {
     let wanted = asked_by_all(alloc, style)?;
     let entries = all_titled(
         alloc,
@@ -359,7 +359,7 @@ fn renders_of_both(
     alloc: Global,
     style: &IndependentStyle,
     entries: &[Counting],
-) -> Result<u128, Fail> {
+) -> Result<u128, Amiss> {
     let mut items: Vec<Item<'_>> = Vec::new(alloc);
     for cited in entries {
         items.push(CitationItem::with_entry(cited))?;
@@ -372,7 +372,7 @@ fn renders_of_both(
 
 /// Whether two cites of one author, of which the second is cut to its year at last, are rendered
 /// twice each.
-fn counts_collapsed(alloc: Global, style: &IndependentStyle) -> Result<bool, Fail> {
+fn counts_collapsed(alloc: Global, style: &IndependentStyle) -> Result<bool, Amiss> {
     let cite = asked_by(alloc, style, Part::Cite(None, None))?;
     let cut = asked_by(alloc, style, Part::Cite(None, Some(CollapseVerdict::First)))?;
     let entries = all_titled(alloc, &[("a", "X", 1999), ("b", "Y", 2000)])?;
@@ -381,13 +381,22 @@ fn counts_collapsed(alloc: Global, style: &IndependentStyle) -> Result<bool, Fai
     Ok(0 < cut && cut < cite && renders == 4 && asked_of(&entries) == wanted)
 }
 
-#[test]
-fn renders_on_another_counter(rt: HostRuntime) -> Result<(), Fail> {
-    let cites_alone = titles_and_years(rt.alloc())?;
-    assert!(rt; counts_cites(rt.alloc(), &cites_alone)?);
-    let listing = listing_titles(rt.alloc())?;
-    assert!(rt; counts_all(rt.alloc(), &listing)?);
-    let collapsing = collapsing_years(rt.alloc())?;
-    assert!(rt; counts_collapsed(rt.alloc(), &collapsing)?);
-    Ok(())
+/// Whether the renders of cites that read alike are counted.
+fn counts_cites_alone(alloc: Global) -> Result<bool, Amiss> {
+    counts_cites(alloc, &titles_and_years(alloc)?)
+}
+
+/// Whether those of cites for each purpose, and of items, are.
+fn counts_listed(alloc: Global) -> Result<bool, Amiss> {
+    counts_all(alloc, &listing_titles(alloc)?)
+}
+
+/// Whether those of cites that are cut are.
+fn counts_cut(alloc: Global) -> Result<bool, Amiss> {
+    counts_collapsed(alloc, &collapsing_years(alloc)?)
+}
+
+/// The account counts the renderings that the entries see.
+pub(crate) fn renders_are_counted(alloc: Global) -> Result<bool, Amiss> {
+    Ok(counts_cites_alone(alloc)? && counts_listed(alloc)? && counts_cut(alloc)?)
 }

@@ -1,9 +1,9 @@
 //! Texts, lists and the initials of names, by themselves.
+use crate::amiss::Amiss;
 use csl_base::entry::{Chunk, ChunkKind, ChunkedString, Person};
 use csl_base::seq::Seq;
 use csl_base::text::Text;
 use std::alloc::{AllocError, Global};
-use std::test::Fail;
 
 fn text(alloc: Global, text: &str) -> Result<Text, AllocError> {
     Ok(Text::new(String::from_str(alloc, text)?))
@@ -21,8 +21,16 @@ fn person(alloc: Global, given: Option<&str>) -> Result<Person, AllocError> {
     })
 }
 
-#[test]
-fn initials_are_the_first_of_each_part(rt: HostRuntime) -> Result<(), Fail> {
+/// Whether a person of this given name has these initials.
+fn has_initials(alloc: Global, given: Option<&str>, want: &str) -> Result<bool, AllocError> {
+    let person = person(alloc, given)?;
+    let initials = person.initials(alloc)?;
+    Ok(initials.as_str() == want)
+}
+
+/// Initials are the first letters of the parts of a given name.
+pub(crate) fn initials_of_given_names(alloc: Global) -> Result<bool, Amiss> {
+    let mut hold = true;
     for (given, want) in [
         (Some("Jean-Luc"), "JL"),
         (Some("Ann  Mary"), "AM"),
@@ -31,10 +39,9 @@ fn initials_are_the_first_of_each_part(rt: HostRuntime) -> Result<(), Fail> {
         (Some("\u{c9}lise\u{a0}\u{d8}ystein"), "\u{c9}\u{d8}"),
         (None, ""),
     ] {
-        let person = person(rt.alloc(), given)?;
-        assert!(rt; person.initials(rt.alloc())?.as_str() == want);
+        hold = has_initials(alloc, given, want)? && hold;
     }
-    Ok(())
+    Ok(hold)
 }
 
 fn coffee(alloc: Global) -> Result<Text, AllocError> {
@@ -43,23 +50,39 @@ fn coffee(alloc: Global) -> Result<Text, AllocError> {
     Ok(word)
 }
 
-#[test]
-fn texts_and_lists_are_copied(rt: HostRuntime) -> Result<(), Fail> {
-    let word = coffee(rt.alloc())?;
-    assert!(rt; word.clone()?.into_string()?.as_str() == "caf\u{E9}");
-    let words = Seq::new(vec![in rt.alloc(); word, text(rt.alloc(), "noir")?]?);
-    let copy = words.clone()?;
-    assert!(rt; copy == words && copy.as_slice().len() == 2 && copy.into_vec().len() == 2);
-    Ok(())
+/// The copy of a text is its text.
+pub(crate) fn texts_are_copied(alloc: Global) -> Result<bool, Amiss> {
+    let word = coffee(alloc)?;
+    let copy = word.clone()?.into_string()?;
+    Ok(copy.as_str() == "caf\u{E9}")
 }
 
-#[test]
-fn pieces_are_copied(rt: HostRuntime) -> Result<(), Fail> {
+/// Two words.
+fn words(alloc: Global) -> Result<Seq<Text>, AllocError> {
+    let word = coffee(alloc)?;
+    Ok(Seq::new(vec![in alloc; word, text(alloc, "noir")?]?))
+}
+
+/// The copy of a list is equal to it.
+pub(crate) fn lists_are_copied(alloc: Global) -> Result<bool, Amiss> {
+    let words = words(alloc)?;
+    let copy = words.clone()?;
+    let is_equal = copy == words && copy.as_slice().len() == 2;
+    Ok(copy.into_vec().len() == 2 && is_equal)
+}
+
+/// A title in one piece.
+fn title(alloc: Global) -> Result<ChunkedString, AllocError> {
     let piece = Chunk {
-        value: text(rt.alloc(), "a")?,
+        value: text(alloc, "a")?,
         kind: ChunkKind::Normal,
     };
-    let title = ChunkedString(Seq::new(vec![in rt.alloc(); piece]?));
-    assert!(rt; title.clone()? == title);
-    Ok(())
+    Ok(ChunkedString(Seq::new(vec![in alloc; piece]?)))
+}
+
+/// The copy of a text in pieces is equal to it.
+pub(crate) fn pieces_are_copied(alloc: Global) -> Result<bool, Amiss> {
+    let title = title(alloc)?;
+    let copy = title.clone()?;
+    Ok(copy == title)
 }

@@ -1,5 +1,6 @@
 //! The whole answer, as far as no document tells it: entries that are equal at two places, note
 //! numbers and marks; and its laws.
+use crate::amiss::Amiss;
 use csl_base::elem::{ElemChildren, ElemMeta};
 use csl_base::entry::PlainEntry;
 use csl_base::style::{IndependentStyle, StyleClass};
@@ -20,7 +21,6 @@ use csl_driver::request::{BibliographyRequest, CitationRequest};
 use csl_limits::limits::limits_equality_decides;
 use std::alloc::{AllocError, Global};
 use std::convert::Infallible;
-use std::test::Fail;
 use test_styles::styles::{entry, numeric, value_style};
 
 type Item<'a> = CitationItem<'a, PlainEntry, Infallible>;
@@ -47,10 +47,10 @@ fn cite<'a>(
     Ok(CitationRequest::from_items(items, style, &[]))
 }
 
-fn take<'a>(driver: &mut Driver<'a>, request: Request<'a>) -> Result<(), Fail> {
+fn take<'a>(driver: &mut Driver<'a>, request: Request<'a>) -> Result<(), Amiss> {
     match driver.citation(request) {
         Ok(()) => Ok(()),
-        Err(_refused) => Err(Fail::new("the request was refused")),
+        Err(_refused) => Err(Amiss("the request was refused")),
     }
 }
 
@@ -59,7 +59,7 @@ fn driver_of<'a>(
     alloc: Global,
     style: &'a IndependentStyle,
     entries: &'a [PlainEntry],
-) -> Result<Driver<'a>, Fail> {
+) -> Result<Driver<'a>, Amiss> {
     let mut driver: Driver<'a> = BibliographyDriver::new(alloc);
     for each in entries {
         take(&mut driver, cite(alloc, style, each)?)?;
@@ -88,8 +88,8 @@ fn lines(alloc: Global, rendered: &Rendered) -> Result<String, AllocError> {
     Ok(text)
 }
 
-#[test]
-fn laws() {
+/// Calls the laws of an answer and of what is asked, each once at a concrete type.
+pub(crate) fn laws() {
     bibliography_holds_each_once::<PlainEntry>();
     numbers_have_no_gaps::<PlainEntry>();
     items_copy_equal::<PlainEntry, Infallible>();
@@ -113,21 +113,21 @@ fn laws() {
 }
 
 /// The answer to a request for each of the keys, in the style.
-fn numbered_in(alloc: Global, style: &IndependentStyle, keys: &[&str]) -> Result<Rendered, Fail> {
+fn numbered_in(alloc: Global, style: &IndependentStyle, keys: &[&str]) -> Result<Rendered, Amiss> {
     let entries = entries_of(alloc, keys)?;
     Ok(driver_of(alloc, style, &entries)?.finish(wanted(style))?)
 }
 
 /// The answer in the numeric style.
-fn numbered(alloc: Global, keys: &[&str]) -> Result<Rendered, Fail> {
+fn numbered(alloc: Global, keys: &[&str]) -> Result<Rendered, Amiss> {
     numbered_in(alloc, &numeric(alloc)?, keys)
 }
 
-#[test]
-fn equal_entries_are_one(rt: HostRuntime) -> Result<(), Fail> {
-    let rendered = numbered(rt.alloc(), &["a", "a"])?;
-    assert!(rt; lines(rt.alloc(), &rendered)?.as_str() == "[1]\n[1]\na [1]\n");
-    Ok(())
+/// Equal entries at two places have one number and one item.
+pub(crate) fn equal_entries_are_one(alloc: Global) -> Result<bool, Amiss> {
+    let rendered = numbered(alloc, &["a", "a"])?;
+    let lines = lines(alloc, &rendered)?;
+    Ok(lines.as_str() == "[1]\n[1]\na [1]\n")
 }
 
 /// A request for the bibliography of the style.
@@ -140,7 +140,7 @@ fn noting<'a>(
     alloc: Global,
     style: &'a IndependentStyle,
     cited: &'a PlainEntry,
-) -> Result<Driver<'a>, Fail> {
+) -> Result<Driver<'a>, Amiss> {
     let items: Vec<Item<'a>> = vec![in alloc; CitationItem::with_entry(cited)]?;
     let mut driver: Driver<'a> = BibliographyDriver::new(alloc);
     take(
@@ -151,31 +151,33 @@ fn noting<'a>(
 }
 
 /// The answer to that in the style.
-fn noted_in(alloc: Global, style: &IndependentStyle) -> Result<Rendered, Fail> {
+fn noted_in(alloc: Global, style: &IndependentStyle) -> Result<Rendered, Amiss> {
     let cited = entry(alloc, "a")?;
     Ok(noting(alloc, style, &cited)?.finish(wanted(style))?)
 }
 
 /// The answer to that in a style of the class.
-fn noted(alloc: Global, class: StyleClass) -> Result<Rendered, Fail> {
+fn noted(alloc: Global, class: StyleClass) -> Result<Rendered, Amiss> {
     noted_in(alloc, &value_style(alloc, class, "T")?)
 }
 
-#[test]
-fn note_numbers_are_kept_in_notes_alone(rt: HostRuntime) -> Result<(), Fail> {
-    for (class, number) in [(StyleClass::Note, Some(7)), (StyleClass::InText, None)] {
-        let rendered = noted(rt.alloc(), class)?;
-        let citation = rendered.citations.as_slice().first().ok_or("no citation")?;
-        assert!(rt; citation.note_number == number);
-    }
-    Ok(())
+/// The note number that the citation has in it.
+fn number_in(alloc: Global, class: StyleClass) -> Result<Option<usize>, Amiss> {
+    let rendered = noted(alloc, class)?;
+    let citation = rendered.citations.as_slice().first().ok_or("no citation")?;
+    Ok(citation.note_number)
 }
 
-#[test]
-fn cites_are_marked_with_their_places(rt: HostRuntime) -> Result<(), Fail> {
-    let rendered = noted(rt.alloc(), StyleClass::Note)?;
-    assert!(rt; rendered.bibliography.is_none());
+/// Note numbers are kept in styles of notes alone.
+pub(crate) fn note_numbers_in_notes(alloc: Global) -> Result<bool, Amiss> {
+    let in_notes = number_in(alloc, StyleClass::Note)?;
+    Ok(in_notes == Some(7) && number_in(alloc, StyleClass::InText)?.is_none())
+}
+
+/// Each cite is marked with its place, and a style without a bibliography gives none.
+pub(crate) fn cites_are_marked(alloc: Global) -> Result<bool, Amiss> {
+    let rendered = noted(alloc, StyleClass::Note)?;
     let citation = rendered.citations.as_slice().first().ok_or("no citation")?;
-    assert!(rt; citation.citation.find_meta(&ElemMeta::Entry(0)).is_some());
-    Ok(())
+    let is_marked = citation.citation.find_meta(&ElemMeta::Entry(0)).is_some();
+    Ok(is_marked && rendered.bibliography.is_none())
 }

@@ -1,4 +1,5 @@
 //! Requests of a prepared style have the answers of those of the style.
+use crate::amiss::Amiss;
 use csl_base::entry::PlainEntry;
 use csl_base::style::IndependentStyle;
 use csl_driver::driver::BibliographyDriver;
@@ -9,7 +10,6 @@ use csl_driver::request::{BibliographyRequest, CitationRequest};
 use csl_driver::terms::TermTables;
 use std::alloc::{AllocError, Global};
 use std::convert::Infallible;
-use std::test::Fail;
 use test_styles::styles::{entry, numeric};
 
 type Request<'a> = CitationRequest<'a, PlainEntry, Infallible>;
@@ -33,10 +33,10 @@ fn cite_prepared<'a, 's: 'a>(
     Ok(CitationRequest::of_prepared(items, prepared, None, files, None))
 }
 
-fn prepared<'a>(alloc: Global, style: &'a IndependentStyle) -> Result<PreparedStyle<'a>, Fail> {
+fn prepared<'a>(alloc: Global, style: &'a IndependentStyle) -> Result<PreparedStyle<'a>, Amiss> {
     match PreparedStyle::new(alloc, style)? {
         Ok(prepared) => Ok(prepared),
-        Err(_) => Err(Fail::new("the style has a ring")),
+        Err(_) => Err(Amiss("the style has a ring")),
     }
 }
 
@@ -45,11 +45,11 @@ fn answer<'a>(
     alloc: Global,
     request: Request<'a>,
     wanted: BibliographyRequest<'a, 'a, PlainEntry>,
-) -> Result<Rendered, Fail> {
+) -> Result<Rendered, Amiss> {
     let mut driver = BibliographyDriver::new(alloc);
     match driver.citation(request) {
         Ok(()) => Ok(driver.finish(wanted)?),
-        Err(_refused) => Err(Fail::new("the request was refused")),
+        Err(_refused) => Err(Amiss("the request was refused")),
     }
 }
 
@@ -58,7 +58,7 @@ fn answer_unprepared<'a>(
     alloc: Global,
     style: &'a IndependentStyle,
     cited: &'a PlainEntry,
-) -> Result<Rendered, Fail> {
+) -> Result<Rendered, Amiss> {
     let wanted = BibliographyRequest::new(style, None, &[]);
     answer(alloc, cite(alloc, style, cited)?, wanted)
 }
@@ -69,7 +69,7 @@ fn answer_prepared<'a, 's: 'a>(
     prepared: &'a PreparedStyle<'s>,
     files: &'a TermTables<'s>,
     cited: &'a PlainEntry,
-) -> Result<Rendered, Fail> {
+) -> Result<Rendered, Amiss> {
     let wanted = BibliographyRequest::of_prepared(prepared, None, files, None);
     answer(alloc, cite_prepared(alloc, prepared, files, cited)?, wanted)
 }
@@ -79,25 +79,23 @@ fn answers_alike(
     alloc: Global,
     prepared: &PreparedStyle<'_>,
     cited: &PlainEntry,
-) -> Result<bool, Fail> {
+) -> Result<bool, Amiss> {
     let files = TermTables::new(alloc, &[])?;
     let answered = answer_prepared(alloc, prepared, &files, cited)?;
     Ok(answered == answer_unprepared(alloc, prepared.style(), cited)?)
 }
 
 /// Whether they are for an entry of the key a.
-fn answers_alike_in(alloc: Global, prepared: &PreparedStyle<'_>) -> Result<bool, Fail> {
+fn answers_alike_in(alloc: Global, prepared: &PreparedStyle<'_>) -> Result<bool, Amiss> {
     answers_alike(alloc, prepared, &entry(alloc, "a")?)
 }
 
 /// Whether they are in this style.
-fn answers_alike_of(alloc: Global, style: &IndependentStyle) -> Result<bool, Fail> {
+fn answers_alike_of(alloc: Global, style: &IndependentStyle) -> Result<bool, Amiss> {
     answers_alike_in(alloc, &prepared(alloc, style)?)
 }
 
-#[test]
-fn prepared_answers_alike(rt: HostRuntime) -> Result<(), Fail> {
-    let style = numeric(rt.alloc())?;
-    assert!(rt; answers_alike_of(rt.alloc(), &style)?);
-    Ok(())
+/// A prepared style answers as the style does.
+pub(crate) fn prepared_answers_alike(alloc: Global) -> Result<bool, Amiss> {
+    answers_alike_of(alloc, &numeric(alloc)?)
 }

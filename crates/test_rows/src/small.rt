@@ -1,4 +1,5 @@
 //! Small values: years, letters, brackets, states, properties.
+use crate::amiss::Amiss;
 use csl_base::equality::equality_laws;
 use csl_base::first_names::first_names_laws;
 use csl_base::last_text::last_text_laws;
@@ -16,10 +17,9 @@ use csl_writing::properties::CiteProperties;
 use csl_writing::state::{DisambiguateState, IdentifierUsage};
 use csl_writing::year::{letters_of_suffix, write_year};
 use std::alloc::{AllocError, Global};
-use std::test::Fail;
 
-#[test]
-fn laws() {
+/// Calls the laws of small values, each once.
+pub(crate) fn laws() {
     forms_are_in_order();
     last_text_laws();
     first_names_laws();
@@ -36,9 +36,16 @@ fn laws() {
     equality_decides::<u32>();
 }
 
-#[test]
-fn years(rt: HostRuntime) -> Result<(), Fail> {
-    let rows = [
+/// Whether the year is written so.
+fn is_written(alloc: Global, year: i32, short: bool, want: &str) -> bool {
+    let mut text = String::new(alloc);
+    write_year(year, short, &mut text, "AD", "BC").is_ok() && text.as_str() == want
+}
+
+/// Years are written with their eras.
+pub(crate) fn years(alloc: Global) -> bool {
+    let mut hold = true;
+    for (year, short, want) in [
         (2021, false, "2021"),
         (2021, true, "21"),
         (1000, true, "00"),
@@ -49,37 +56,31 @@ fn years(rt: HostRuntime) -> Result<(), Fail> {
         (-1, false, "2BC"),
         (-2147483647, false, "2147483648BC"),
         (-2147483648, false, "2147483649BC"),
-    ];
-    for (year, short, want) in rows {
-        let mut text = String::new(rt.alloc());
-        assert!(rt;
-            write_year(year, short, &mut text, "AD", "BC").is_ok() && text.as_str() == want
-        );
+    ] {
+        hold = is_written(alloc, year, short, want) && hold;
     }
-    Ok(())
+    hold
 }
 
-#[test]
-fn letters(rt: HostRuntime) -> Result<(), Fail> {
+/// Each suffix has its letters: one up to z, and then two.
+pub(crate) fn letters(alloc: Global) -> Result<bool, Amiss> {
+    let mut hold = true;
     for (suffix, want) in [(0, "a"), (25, "z"), (26, "aa"), (27, "ab")] {
-        assert!(rt; letters_of_suffix(rt.alloc(), suffix)?.as_str() == want);
+        hold = letters_of_suffix(alloc, suffix)?.as_str() == want && hold;
     }
-    Ok(())
+    Ok(hold)
 }
 
-#[test]
-fn small_values(rt: HostRuntime) {
+/// The greatest state, what is there by default, and brackets.
+pub(crate) fn small_values() -> bool {
     let state = DisambiguateState::Choose.max(DisambiguateState::YearSuffix(3));
-    assert!(rt; state == DisambiguateState::YearSuffix(3));
-    assert!(rt;
-        DisambiguateState::default() == DisambiguateState::None
-            && IdentifierUsage::default().label().number() == IdentifierUsage::Mixed
-    );
-    assert!(rt;
-        Brackets::Square.left() == Some('[')
-            && Brackets::Square.right() == Some(']')
-            && Brackets::None.left() == None
-    );
+    let is_greatest = state == DisambiguateState::YearSuffix(3);
+    let are_defaults = DisambiguateState::default() == DisambiguateState::None
+        && IdentifierUsage::default().label().number() == IdentifierUsage::Mixed;
+    let are_brackets = Brackets::Square.left() == Some('[')
+        && Brackets::Square.right() == Some(']')
+        && Brackets::None.left() == None;
+    is_greatest && are_defaults && are_brackets
 }
 
 /// The properties of a cite that points at this payload.
@@ -103,17 +104,21 @@ fn loses_its_locator(alloc: Global) -> Result<bool, AllocError> {
     Ok(without.locator.is_none() && !(without == properties.speculative))
 }
 
-#[test]
-fn properties_are_compared(rt: HostRuntime) -> Result<(), Fail> {
-    assert!(rt; are_equal(rt.alloc(), 7, 7)? && !are_equal(rt.alloc(), 7, 8)?);
-    assert!(rt; loses_its_locator(rt.alloc())?);
-    assert!(rt; DisambiguateState::Choose.clone()? == DisambiguateState::Choose);
-    Ok(())
+/// Whether the copy of a state is equal to it.
+fn state_is_copied() -> Result<bool, AllocError> {
+    let copy = DisambiguateState::Choose.clone()?;
+    Ok(copy == DisambiguateState::Choose)
 }
 
-#[test]
-fn locators_differ_by_kind(rt: HostRuntime) {
+/// Properties are compared with their locators, and copied.
+pub(crate) fn properties_are_compared(alloc: Global) -> Result<bool, Amiss> {
+    let are_compared = are_equal(alloc, 7, 7)? && !are_equal(alloc, 7, 8)?;
+    Ok(are_compared && loses_its_locator(alloc)? && state_is_copied()?)
+}
+
+/// Locators of two kinds are not equal.
+pub(crate) fn locators_differ_by_kind() -> bool {
     let page: SpecificLocator<u32> = SpecificLocator(Locator::Page, LocatorPayload::Str("7"));
     let line: SpecificLocator<u32> = SpecificLocator(Locator::Line, LocatorPayload::Str("7"));
-    assert!(rt; page != line);
+    page != line
 }
