@@ -10,6 +10,7 @@ use Rattle.csl_tables.specs.declared.writer.WrittenMention.{WrittenMention}
 use Rattle.csl_writers.specs.Counted.{counted}
 use Rattle.csl_writers.specs.Tasks.{CiteTaskValue, cite_task}
 use Rattle.csl_writers.specs.Writing.{WriterState}
+use Rattle.csl_writers.specs.declared.cite.Cite.{Cite}
 use Rattle.csl_cited_mentions.specs.Kept.{written_mention}
 use Rattle.csl_cited_mentions.specs.ToldMeans.{with_means}
 use Rattle.csl_cited_mentions.specs.declared.kept.KeptOfMention.{KeptOfMention}
@@ -32,18 +33,18 @@ module _ {E P : Type 0} where
   abbrev pub first_task : CiteMention E P → CiteTaskValue E P
   first_task m = with_properties m (properties_view m.properties.now)
 
-module _ {E P N : Type 0} (w : WriterState E P N) where
+module _ {E P : Type 0} (cite : CiteTaskValue E P → Cite) where
   -- a cite that is written in a state: where that tells it apart, with the usage that it noted
   -- where nothing did
   abbrev pub task_again : CiteTaskValue E P → MentionState → CiteTaskValue E P
   task_again t state =
       if is_told state
-      then record t { properties = with_means t.properties state (w.cite t).identifier_usage }
+      then record t { properties = with_means t.properties state (cite t).identifier_usage }
       else t
 
   -- what is written then
   abbrev pub written_again : CiteTaskValue E P → MentionState → WrittenMention KeptOfMention
-  written_again t state = written_mention (w.cite (task_again t state))
+  written_again t state = written_mention (cite (task_again t state))
 
   -- what is read of it, and what is kept
   abbrev pub reading_of : CiteTaskValue E P → MentionState → Written
@@ -56,12 +57,13 @@ module _ {E P N : Type 0} (w : WriterState E P N) where
   abbrev pub task_in : CiteMention E P → MentionState → CiteTaskValue E P
   task_in m = task_again (first_task m)
 
+module _ {E P N : Type 0} (w : WriterState E P N) where
   -- cites that are written in states, so many of which were counted
   abbrev pub cites : ℕ → MentionsWriter (CiteTaskValue E P) KeptOfMention (Noted N)
   cites count = record {
-    write = written_again;
+    write = written_again w.cite;
     noting = λ p noted. record {
-      notes = w.noting (cite_task (task_again p.0 p.1)) noted.notes;
+      notes = w.noting (cite_task (task_again w.cite p.0 p.1)) noted.notes;
       count = counted noted.count;
     };
     notes = record { notes = w.notes; count = count };

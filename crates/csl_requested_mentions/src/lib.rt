@@ -4,6 +4,5 @@
 pub mod handed;
 pub mod home;
 pub mod homes;
-pub mod mention;
 pub mod mentions;
 pub mod properties;

@@ -13,7 +13,7 @@ ghost use Rattle.csl_requested_mentions.specs.Mentions.{
 ghost use Rattle.csl_requested_mentions.specs.Plain.{plain};
 
 use crate::home::Home;
-use crate::mention::CiteMention;
+use csl_cited_mentions::mention::CiteMention;
 use csl_lookup::properties::CiteProperties;
 use csl_style_values::style::{Citation, DisambiguationRule};
 use csl_tables::subject::Subject;

@@ -30,7 +30,7 @@ returns g c =
     let told = c.args.told.now in
     let first = c.args.first.now in
     let properties = properties_view c.in_ok-properties.properties in
-    let task : first ≡ first_kept (cited w n) m → with_properties m properties ≡ task_in w m told =
+    let task : first ≡ first_kept (cited w n) m → with_properties m properties ≡ task_in w.cite m told =
     λ h. again-task w m told first.usage properties (sym c.is_told.ensures ∙ c.if-not-is_told.false) (ap (λ (k : KeptOfMention). k.usage) h) c.in_ok-properties.ensures in
     record {
       written = λ h. subst (λ (t : CiteTaskValue g.row.T.Denot g.row.P.Denot). IfOk c.written_by-2.result (λ x. x ≡ written_mention (w.cite t))) (task h) c.written_by-2.ensures.written;
