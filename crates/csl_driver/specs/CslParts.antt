@@ -11,12 +11,12 @@ use Rattle.csl_told_cites.specs.Mentions.{told_mentions}
 use Rattle.csl_told_cites.specs.Requests.{located}
 use Rattle.csl_writers.specs.Writing.{Writing}
 use Rattle.csl_driver.specs.Answer.{Job}
-use Rattle.csl_driver.specs.CslAnswer.{entry_suffixes, shown_mentions, states}
+use Rattle.csl_driver.specs.CslAnswer.{entry_suffixes, shown_mentions, states as told_states}
 
 -- what tells the mentions of a job apart
 pub record AreToldApart {E P : Type 0} (eq : E → E → Bool) (job : Job E P) (writing : Writing E P)
     (t : Told KeptOfMention) : Type 0 where
-  pub states : t.states.items ≡ states eq job writing
+  pub states : t.states.items ≡ told_states eq job writing
   pub suffixes : t.suffixes.items ≡ entry_suffixes eq job writing
   pub mentions : told_mentions t.firsts.items t.again.items t.texts.items
       ≡ shown_mentions eq job writing
