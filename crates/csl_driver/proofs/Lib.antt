@@ -24,3 +24,4 @@ pub mod Steps
 pub mod CslMentions
 pub mod CslLocated
 pub mod CslStanding
+pub mod CslAccounting
