@@ -52,8 +52,8 @@ impl<'d, 'o, 'a, T: EntryLike, P: Eq + Drop> Draft<'d, 'o, 'a, T, P> {
         let requests = self.requests.requests;
         let notes = notes_of_cites(alloc, requests, &cited.table, &cited.listing)?;
         let told = self.told_apart(alloc, &notes, writer, &mut counter)?;
-        let (cites, numbers) = self.arranged(alloc, &notes, &told)?;
-        let cites = &cites.by_request;
+        let (all, numbers) = self.arranged(alloc, &notes, &told)?;
+        let cites: &[SpeculativeCiteRender<'d, 'a, T, P>] = &all.by_request;
         let bibliography = self.told_bibliography(alloc, cites, &told, writer, &mut counter)?;
         let citations = self.told_citations(alloc, cites, writer, &mut counter)?;
         let account = self.csl_account(alloc, told, numbers, &counter)?;
