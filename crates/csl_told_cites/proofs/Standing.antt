@@ -1,5 +1,5 @@
 -- The cites of requests in their final order are those of the requests, know where their entries stand in the table, and cite the entries of the table.
-use Rattle.std.proofs.Common.{◌≡◌, ℕ, zero, suc, ◌+◌, Bool, true, false, ◌||◌, Option, Some, None, List, [], ◌∷◌, ◌++◌, All, length, map, refl, ap, sym, subst, ◌∙◌, arith}
+use Rattle.std.proofs.Common.{◌≡◌, ℕ, zero, suc, ◌+◌, Bool, false, ◌||◌, Option, Some, None, List, [], ◌∷◌, ◌++◌, All, length, map, refl, ap, sym, subst, ◌∙◌, arith}
 use Rattle.std.specs.Prelude.{filter_map, flat_map, option_map, slice_get}
 use Rattle.std.specs.List.{AllZip, cons_option, list_any, range_with_len, zip}
 use Rattle.std.specs.List.Sorted.{IsPermutation}
@@ -16,7 +16,7 @@ use Rattle.csl_entries.specs.Entries.{distinct, is_in, place}
 use Rattle.csl_entries.specs.PlacedItems.{ArePlaced, IsPlaced}
 use Rattle.csl_entries.specs.Table.{places_in, table_of}
 use Rattle.csl_entries.proofs.Distinct.{is_in-distinct}
-use Rattle.csl_passes.specs.Renders.{CiteRender, ItemRender}
+use Rattle.csl_passes.specs.Renders.{ItemRender}
 use Rattle.csl_passes.specs.Request.{RequestedCite, Request, cited, entries_of}
 use Rattle.csl_told_cites.specs.Cites.{ToldValue, told_at, told_cite, told_cites}
 

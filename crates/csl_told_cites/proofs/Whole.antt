@@ -1,9 +1,8 @@
 -- In its final order each cite of a request stands once.
-use Rattle.std.proofs.Common.{◌≡◌, ℕ, zero, suc, ◌+◌, ◌<◌, ◌≤◌, Bool, true, false, cond, not, Option, Some, None, List, [], ◌∷◌, ◌++◌, All, filter, flat_map, length, map, refl, ap, sym, subst, ◌∙◌, arith, zero-le}
-use Rattle.std.specs.Prelude.{filter_map, nat_eq, option_map, slice_get}
+use Rattle.std.proofs.Common.{◌≡◌, ℕ, zero, suc, ◌+◌, ◌<◌, ◌≤◌, Bool, true, false, cond, not, Option, Some, List, [], ◌∷◌, ◌++◌, All, filter, flat_map, length, map, refl, ap, sym, subst, ◌∙◌, arith, zero-le}
+use Rattle.std.specs.Prelude.{nat_eq, option_map, slice_get}
 use Rattle.std.specs.List.{AllZip, cons_option, range_with_len}
 use Rattle.std.specs.List.Sorted.{IsPermutation}
-use Rattle.std.specs.Cmp.{nat_eq_equiv}
 use Rattle.std.proofs.lemmas.Bool.{eqb-true}
 use Rattle.std.proofs.lemmas.Bool.Decides.{nat_tests}
 use Rattle.std.proofs.lemmas.List.{length-map}
@@ -14,7 +13,7 @@ use Rattle.csl_blocks.specs.declared.blocks.GroupedCite.{GroupedCite}
 use Rattle.csl_blocks.specs.declared.blocks.PlacedCite.{PlacedCite}
 use Rattle.csl_blocks.proofs.Placing.{blocks-within, places-from}
 use Rattle.csl_blocks.proofs.Sorting.{class}
-use Rattle.csl_arranging.specs.Order.{cites_in_order, final_cite, final_cites, final_order, final_request, grouped_cite, handed_order, is_grouped, with_place}
+use Rattle.csl_arranging.specs.Order.{cites_in_order, final_cites, final_order, final_request, grouped_cite, handed_order, is_grouped, with_place}
 use Rattle.csl_arranging.specs.Requests.{Request as Arranged}
 use Rattle.csl_arranging.specs.declared.request.CiteStyle.{CiteStyle}
 use Rattle.csl_arranging.specs.declared.request.FinalCite.{FinalCite}
