@@ -194,7 +194,8 @@ fn mention_index(entry: usize, is_first: bool) -> usize
 pub(crate) fn by_mention<X>(all: &[X], entry: usize, is_first: bool) -> Option<&X>
     ensures { option_map (λ x. x.now) result ≡ slice_get all.now (mention_index entry is_first) }
 {
-    if entry > all.len() / 2 {
+    let half = all.len() / 2;
+    if entry > half {
         return None;
     }
     all.get(mention_index(entry, is_first))
