@@ -21,11 +21,8 @@ use Rattle.csl_passes.specs.Request.{RequestedCite, Request, cited, entries_of}
 use Rattle.csl_told_cites.specs.Cites.{ToldValue, told_at, told_cite, told_cites}
 
 zip-first : {A B : Type 0} (xs : List A) (ys : List B) (k : ℕ) (p : A × B) → slice_get (zip xs ys) k ≡ Some p → slice_get xs k ≡ Some p.0
-zip-first [] ys k p h = h-none k h
-  where
-    h-none : (k : ℕ) → slice_get [] k ≡ Some p → slice_get [] k ≡ Some p.0
-    h-none zero h = cc
-    h-none (suc k) h = cc
+zip-first [] ys zero p h = cc
+zip-first [] ys (suc k) p h = cc
 zip-first (x ∷ xs) [] zero p h = cc
 zip-first (x ∷ xs) [] (suc k) p h = cc
 zip-first (x ∷ xs) (y ∷ ys) zero p h = cc
