@@ -1,5 +1,18 @@
 //! Where the entries that requests cite are cited first.
-ghost use Rattle.std.specs.Prelude.{◌≡◌, ◌∷◌, ◌++◌, [], IfOk, List, OnOk, filter, filter_map, length, map, slice_get};
+ghost use Rattle.std.specs.Prelude.{
+  ◌≡◌,
+  ◌∷◌,
+  ◌++◌,
+  [],
+  IfOk,
+  List,
+  OnOk,
+  filter,
+  filter_map,
+  length,
+  map,
+  slice_get,
+};
 ghost use Rattle.csl_entries.specs.Entries.{distinct};
 ghost use Rattle.csl_entries.specs.Listed.{IsListingOf};
 ghost use Rattle.csl_entries.specs.ListingView.{listing_view};
