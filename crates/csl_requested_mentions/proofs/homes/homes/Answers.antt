@@ -8,7 +8,7 @@ use Rattle.csl_entries.specs.ListingView.{listing_view}
 use Rattle.csl_passes.specs.Request.{cited}
 use Rattle.csl_passes.specs.RequestView.{requests_view}
 use Rattle.csl_requested_mentions.specs.Handed.{notes_of_cites}
-use Rattle.csl_requested_mentions.specs.Homes.{homes}
+use Rattle.csl_requested_mentions.specs.Homes.{homes_of}
 use Rattle.csl_requested_mentions.specs.HomeView.{home_view, homes_view}
 use Rattle.csl_requested_mentions.proofs.Finding.{homes-count, homes-found}
 use Rattle.csl_requested_mentions.proofs.homes.homes.Goals as goal
@@ -24,11 +24,11 @@ returns g c =
     let places = c.order.result.now in
     let made = ap homes_view c.deref.ensures.value ∙ c.in_ok-firsts.ensures in
     let all : (v : _) → homes_view v.items ≡ filter_map (slice_get firsts) places → (listed : List g.row.T.Denot) → IsListingOf eq (distinct eq (cited rs)) listed l
-    → rows ≡ notes_of_cites eq listed rs → homes_view v.items ≡ homes eq listed rs =
+    → rows ≡ notes_of_cites eq listed rs → homes_view v.items ≡ homes_of eq listed rs =
     λ v found listed is same. homes-found eq laws rs listed l is rows places (homes_view v.items) same c.order.ensures (found ∙ ap (λ fs. filter_map (slice_get fs) places) made) in
     record {
       homes = IfOk-weaker c.at_places.result (λ v. homes_view v.items ≡ filter_map (slice_get firsts) places)
-          (λ v. (listed : List g.row.T.Denot) → IsListingOf eq (distinct eq (cited rs)) listed l → rows ≡ notes_of_cites eq listed rs → homes_view v.items ≡ homes eq listed rs)
+          (λ v. (listed : List g.row.T.Denot) → IsListingOf eq (distinct eq (cited rs)) listed l → rows ≡ notes_of_cites eq listed rs → homes_view v.items ≡ homes_of eq listed rs)
           all c.at_places.ensures;
       each = IfOk-weaker c.at_places.result (λ v. homes_view v.items ≡ filter_map (slice_get firsts) places)
           (λ v. (listed : List g.row.T.Denot) → IsListingOf eq (distinct eq (cited rs)) listed l → rows ≡ notes_of_cites eq listed rs → length v.items ≡ length listed)
