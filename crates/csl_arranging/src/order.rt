@@ -110,10 +110,10 @@ fn cites_in_order<L: Copy>(
 {
     let mut found = Vec::with_capacity(alloc, order.len())?;
     for placed in order {
-        let cite = cites[placed.place];
+        let place = placed.place;
         found.push(FinalCite {
             placed: *placed,
-            cite,
+            cite: cites[place],
         })?;
     }
     Ok(found)
