@@ -1,6 +1,6 @@
 //! Cites as they are arranged: their positions, and how they collapse (CSL 1.0.2, cite grouping and
 //! cite collapsing).
-ghost use Rattle.std.specs.Prelude.{◌≡◌, IfOk, map, zip};
+ghost use Rattle.std.specs.Prelude.{◌≡◌, IfOk, map};
 ghost use Rattle.csl_arranging.specs.Arranged.{arranged_by_years, arranged_cite, arranged_cites, arranged_request};
 ghost use Rattle.csl_arranging.specs.Collapsing.{collapse_of, collapsed_cites, years_with_ranges};
 ghost use Rattle.csl_arranging.specs.Requests.{request_view, requests_view};

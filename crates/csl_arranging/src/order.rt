@@ -4,7 +4,7 @@ ghost use Rattle.std.specs.List.{range_with_len};
 ghost use Rattle.std.specs.List.Sorted.{IsPermutation};
 ghost use Rattle.csl_blocks.specs.Blocks.{block_order};
 ghost use Rattle.csl_arranging.specs.Order.{cites_in_order, collapses_years, final_cites, final_order, final_request, grouped_cite, handed_order, is_grouped};
-ghost use Rattle.csl_arranging.specs.Requests.{request_view, requests_view};
+ghost use Rattle.csl_arranging.specs.Requests.{requests_view};
 
 use crate::request::{CiteRequest, CiteStyle, FinalCite, RequestedCite};
 use csl_blocks::blocks::{GroupedCite, PlacedCite, block_order};
@@ -110,10 +110,10 @@ fn cites_in_order<L: Copy>(
 {
     let mut found = Vec::with_capacity(alloc, order.len())?;
     for placed in order {
-        let cite = cites[placed.place];
+        let place = placed.place;
         found.push(FinalCite {
             placed: *placed,
-            cite,
+            cite: cites[place],
         })?;
     }
     Ok(found)

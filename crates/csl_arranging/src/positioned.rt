@@ -1,5 +1,5 @@
 //! Cites in their final order, with their positions.
-ghost use Rattle.std.specs.Prelude.{◌≡◌, IfOk, map, zip};
+ghost use Rattle.std.specs.Prelude.{◌≡◌, IfOk};
 ghost use Rattle.csl_arranging.specs.Positioned.{can_be_cut, is_different, positioned_cite, positioned_cites};
 
 use crate::request::{FinalCite, RequestedCite};

@@ -1,15 +1,16 @@
 -- The entries that notes cite, one more.
 use mathlib.Core.Bool.{or-false, or-true}
-use Rattle.std.proofs.Common.{◌≡◌, ℕ, zero, suc, ◌+◌, ◌-◌, ◌<◌, ◌≤◌, ◌≢◌, Bool, true, false, cond, not, ◌&&◌, ◌||◌, Some, None, Option, List, [], ◌∷◌, length, get_or, take, refl, ap, sym, ◌∙◌, arith, add-one}
-use Rattle.std.specs.Prelude.{nat_eq}
+use Rattle.std.proofs.Common.{◌≡◌, ℕ, zero, suc, ◌+◌, ◌-◌, ◌<◌, ◌≤◌, ◌≢◌, Bool, true, false, cond, not, ◌&&◌, ◌||◌, Some, None, Option, List, [], ◌∷◌, length, map, get_or, take, refl, ap, sym, ◌∙◌, arith, add-one}
+use Rattle.std.specs.Prelude.{nat_eq, option_map, slice_get}
 use Rattle.std.specs.HashMap.{HashMap, get}
 use Rattle.std.specs.List.{list_any}
 use Rattle.std.specs.Map.{lookup}
+use Rattle.std.specs.Option.{option_and_then}
 use Rattle.std.specs.Cmp.{nat_eq_equiv}
 use Rattle.std.proofs.lemmas.Bool.{eqb-true}
 use Rattle.std.proofs.lemmas.List.Folds.{list_any-append}
 use Rattle.std.proofs.lemmas.List.{take_all}
-use Rattle.std.proofs.lemmas.Option.{slice_get_read}
+use Rattle.std.proofs.lemmas.Option.{slice_get-map, slice_get_read}
 use Rattle.csl_notes.specs.Noted.{is_other, noted_with}
 use Rattle.csl_notes.specs.Repeats.{before_at}
 use Rattle.csl_notes.specs.declared.repeats.NoteEntries.{NoteEntries}
@@ -79,3 +80,11 @@ before-found xs (suc k) x some within here =
 
 pub before-next : {X : Type 0} (xs : List X) (k : ℕ) (x : X) → k < length xs → x ≡ get_or xs k x → before_at xs (k + 1) ≡ Some x
 before-next xs k x within here = ap (before_at xs) (add-one k) ∙ slice_get_read xs (length xs) k x refl within here
+
+pub before-view : {X Y Z : Type 0} (view : X → Y) (f : Y → Option Z) (xs : List X) (k : ℕ) → option_and_then (λ x. f (view x)) (before_at xs k) ≡ option_and_then f (before_at (map view xs) k)
+before-view view f xs zero = refl
+before-view {X = X} view f xs (suc k) = by (slice_get xs k) ∙ ap (option_and_then f) (sym (slice_get-map view xs k))
+  where
+    by : (o : Option X) → option_and_then (λ x. f (view x)) o ≡ option_and_then f (option_map view o)
+    by None = refl
+    by (Some x) = refl

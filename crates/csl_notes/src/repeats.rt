@@ -5,7 +5,7 @@ ghost use Rattle.std.specs.List.{list_any};
 ghost use Rattle.std.specs.Option.{option_and_then, option_copied};
 ghost use Rattle.csl_notes.specs.Noted.{AreNotesOf, is_other, noted_with};
 ghost use Rattle.csl_notes.specs.Repeats.{before_at, is_note, may_be_repeated, only_repeatable, position_behind, position_by, positions, positions_behind, repeatable};
-ghost use Rattle.csl_notes.specs.Requests.{Request, requests_view};
+ghost use Rattle.csl_notes.specs.Requests.{Request, request_view, requests_view};
 
 use std::alloc::{AllocError, Global};
 use std::collections::HashMap;
@@ -160,8 +160,8 @@ fn repeatable_before<'x, L>(
     requires within { k < length requests.now }
     requires noted { AreNotesOf noted.now (requests_view requests.now) }
     ensures { option_copied result
-        ≡ option_and_then (repeatable (requests_view requests.now) note)
-        (before_at (requests_view requests.now) k) }
+        ≡ option_and_then (λ r. repeatable (requests_view requests.now) note (request_view r))
+        (before_at requests.now k) }
 {
     if k == 0 {
         return None;

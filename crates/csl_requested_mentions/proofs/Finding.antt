@@ -14,7 +14,7 @@ use Rattle.csl_notes.specs.Notes.{all_notes}
 use Rattle.csl_notes.specs.declared.notes.CiteNotes.{CiteNotes}
 use Rattle.csl_passes.specs.Request.{RequestedCite, Request, cited, cites_of}
 use Rattle.csl_requested_mentions.specs.Handed.{cite_counts, handed_cite, handed_cites, notes_of_cites, parts}
-use Rattle.csl_requested_mentions.specs.Homes.{HomeValue, home, homes, standing_cites}
+use Rattle.csl_requested_mentions.specs.Homes.{HomeValue, home, homes_of, standing_cites}
 use Rattle.csl_requested_mentions.specs.Steps.{is_first_cite}
 use Rattle.csl_requested_mentions.proofs.Firsts.{alike, firsts-kept, first-at, found}
 use Rattle.csl_requested_mentions.proofs.Handing.{counted, named, notes-count}
@@ -76,7 +76,7 @@ module _ {E P : Type 0} (eq : E → E → Bool) (laws : IsEquivalence eq) (rs : 
       (λ i. slice_get (firsts-are i) (place eq e (distinct eq (sym all-entries i)))) ∙ first-at eq laws entry_of e all
 
   pub homes-found : (rows : List (List CiteNotes)) (places : List ℕ) (found : List (HomeValue E P)) → rows ≡ notes_of_cites eq listed rs → places ≡ l.order
-      → found ≡ filter_map (slice_get (filter is_first_cite (standing_cites rs rows))) places → found ≡ homes eq listed rs
+      → found ≡ filter_map (slice_get (filter is_first_cite (standing_cites rs rows))) places → found ≡ homes_of eq listed rs
   homes-found rows places found same order made =
       made ∙ (λ i. filter_map (slice_get (filter is_first_cite (standing_cites rs (same i)))) ((order ∙ ap (λ t. t.order) is.listed) i))
       ∙ filter_map-same (slice_get (filter is_first_cite all)) (λ e. place eq e (distinct eq (cited rs))) (home eq listed rs) home-at listed
@@ -91,5 +91,5 @@ module _ {E P : Type 0} (eq : E → E → Bool) (laws : IsEquivalence eq) (rs : 
       let next : length (filter_map (home eq listed rs) es) + 1 ≡ suc (length es) = omega (arith, more) in
       cons-some (home eq listed rs e) (filter_map (home eq listed rs) es) there ∙ next
 
-  pub homes-count : length (homes eq listed rs) ≡ length listed
+  pub homes-count : length (homes_of eq listed rs) ≡ length listed
   homes-count = length-homes listed (all-cited eq laws (cited rs) listed same-members)

@@ -1,9 +1,9 @@
 -- The first cites, gathered one after another.
 use Rattle.std.proofs.Common.{◌≡◌, ℕ, ◌+◌, ◌<◌, ◌≤◌, List, [], ◌∷◌, ◌++◌, filter, length, map, take, drop, get_or, refl, ap, sym, ◌∙◌, append-nil, append_assoc}
-use Rattle.std.specs.Prelude.{filter_map, flat_map}
+use Rattle.std.specs.Prelude.{flat_map}
 use Rattle.std.specs.List.{enumerate_from, zip}
 use Rattle.std.proofs.lemmas.List.{drop_all, drop_more}
-use Rattle.std.proofs.lemmas.List.Elements.{filter-append, filter_map-append}
+use Rattle.std.proofs.lemmas.List.Elements.{filter-append}
 use Rattle.csl_notes.specs.declared.notes.CiteNotes.{CiteNotes}
 use Rattle.csl_passes.specs.Request.{RequestedCite, Request}
 use Rattle.csl_requested_mentions.specs.Homes.{HomeValue, standing_cite, standing_in}
@@ -38,15 +38,15 @@ module _ {E P : Type 0} where
     standing_rest = flat_map (λ p. standing_in p.0 p.1) (zip (map view (drop k xs)) (map row (drop k ys)))
 
   module _ {X Y : Type 0} (view : X → Request E P) (row : Y → List CiteNotes) (xs : List X) (ys : List Y) (k : ℕ) where
-    pub request-more : (x : X) (y : Y) → k < length xs → x ≡ get_or xs k x → k < length ys → y ≡ get_or ys k y → (made now all : List (HomeValue E P))
-        → made ++ filter is_first_cite (standing_rest view row xs ys k) ≡ all → now ≡ made ++ filter is_first_cite (standing_in (view x) (row y))
+    pub request-more : (v : Request E P) (y : Y) → map view (drop k xs) ≡ v ∷ map view (drop (k + 1) xs) → k < length ys → y ≡ get_or ys k y → (made now all : List (HomeValue E P))
+        → made ++ filter is_first_cite (standing_rest view row xs ys k) ≡ all → now ≡ made ++ filter is_first_cite (standing_in v (row y))
         → now ++ filter is_first_cite (standing_rest view row xs ys (k + 1)) ≡ all
-    request-more x y within here inside there made now all so_far pushed =
-        let own = standing_in (view x) (row y) in
+    request-more v y split inside there made now all so_far pushed =
+        let own = standing_in v (row y) in
         let rest = standing_rest view row xs ys (k + 1) in
         ap (λ l. l ++ filter is_first_cite rest) pushed ∙ append_assoc made (filter is_first_cite own) (filter is_first_cite rest)
         ∙ ap (λ l. made ++ l) (sym (filter-append is_first_cite own rest))
-        ∙ (λ i. made ++ filter is_first_cite (flat_map (λ p. standing_in p.0 p.1) (zip (sym (opened view xs k x within here) i) (sym (opened row ys k y inside there) i)))) ∙ so_far
+        ∙ (λ i. made ++ filter is_first_cite (flat_map (λ p. standing_in p.0 p.1) (zip (sym split i) (sym (opened row ys k y inside there) i)))) ∙ so_far
 
     pub request-all : (made all : List (HomeValue E P)) → length xs ≤ k → made ++ filter is_first_cite (standing_rest view row xs ys k) ≡ all → made ≡ all
     request-all made all past so_far =

@@ -31,5 +31,5 @@ module _ {E P : Type 0} (eq : E → E → Bool) (listed : List E) (requests : Li
       (standing_cites requests (notes_of_cites eq listed requests))
 
   -- the homes of the bibliography's entries
-  abbrev pub homes : List (HomeValue E P)
-  homes = filter_map home listed
+  abbrev pub homes_of : List (HomeValue E P)
+  homes_of = filter_map home listed

@@ -12,7 +12,7 @@ use Rattle.csl_style_values.specs.Style.{CitationValue}
 use Rattle.csl_style_values.specs.declared.style.DisambiguationRule.{DisambiguationRule}
 use Rattle.csl_tables.specs.declared.subject.Subject.{Subject}
 use Rattle.csl_writers.specs.Tasks.{CiteTaskValue}
-use Rattle.csl_requested_mentions.specs.Homes.{HomeValue, homes}
+use Rattle.csl_requested_mentions.specs.Homes.{HomeValue, homes_of}
 
 -- the rule by which a style adds given names, if it does
 abbrev pub given_name_rule : CitationValue → Option DisambiguationRule
@@ -75,4 +75,4 @@ module _ {E P : Type 0} where
 -- those of all entries of the bibliography
 abbrev pub mentions_of : {E P : Type 0} → (E → E → Bool) → ℕ → List E → List (Request E P)
     → List (Subject (CiteTaskValue E P))
-mentions_of eq offset listed requests = mentions_at offset (homes eq listed requests)
+mentions_of eq offset listed requests = mentions_at offset (homes_of eq listed requests)

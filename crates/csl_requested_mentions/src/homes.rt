@@ -1,12 +1,25 @@
 //! Where the entries that requests cite are cited first.
-ghost use Rattle.std.specs.Prelude.{◌≡◌, ◌∷◌, ◌++◌, [], IfOk, List, OnOk, filter, filter_map, length, map, slice_get};
+ghost use Rattle.std.specs.Prelude.{
+  ◌≡◌,
+  ◌∷◌,
+  ◌++◌,
+  [],
+  IfOk,
+  List,
+  OnOk,
+  filter,
+  filter_map,
+  length,
+  map,
+  slice_get,
+};
 ghost use Rattle.csl_entries.specs.Entries.{distinct};
 ghost use Rattle.csl_entries.specs.Listed.{IsListingOf};
 ghost use Rattle.csl_entries.specs.ListingView.{listing_view};
 ghost use Rattle.csl_passes.specs.Request.{cited};
 ghost use Rattle.csl_passes.specs.RequestView.{request_view, requests_view};
 ghost use Rattle.csl_requested_mentions.specs.Handed.{cite_counts, notes_of_cites};
-ghost use Rattle.csl_requested_mentions.specs.Homes.{homes, standing_cites, standing_in};
+ghost use Rattle.csl_requested_mentions.specs.Homes.{homes_of, standing_cites, standing_in};
 ghost use Rattle.csl_requested_mentions.specs.HomeView.{home_view, homes_view};
 ghost use Rattle.csl_requested_mentions.specs.Steps.{is_first_cite};
 
@@ -123,7 +136,7 @@ pub fn homes<'r, 'a, T: EntryLike, P>(
         listed (listing_view listing.now)
         → map (λ n. n.items) notes.now
         ≡ notes_of_cites T.eq listed (requests_view requests.entry.requests.now)
-        → homes_view v.items ≡ homes T.eq listed (requests_view requests.entry.requests.now)) }
+        → homes_view v.items ≡ homes_of T.eq listed (requests_view requests.entry.requests.now)) }
     ensures each { IfOk result (λ v. (listed : List T)
         → IsListingOf T.eq (distinct T.eq (cited (requests_view requests.entry.requests.now)))
         listed (listing_view listing.now)

@@ -1,5 +1,5 @@
 //! The properties of mentions.
-ghost use Rattle.std.specs.Prelude.{◌≡◌, ◌+◌, ◌<◌, ◌^◌, IfOk, length, map};
+ghost use Rattle.std.specs.Prelude.{◌≡◌, ◌+◌, ◌*◌, ◌<◌, ◌^◌, IfOk, length, map};
 ghost use Rattle.csl_lookup.specs.PropertiesView.{properties_view};
 ghost use Rattle.csl_passes.specs.Class.{is_note};
 ghost use Rattle.csl_requested_mentions.specs.HomeView.{home_view, homes_view};
@@ -66,8 +66,9 @@ pub fn properties_of_mentions<'p, T, P: Drop>(
     offset: usize,
 ) -> Result<Vec<CiteProperties<'p, P>>, AllocError>
     requires { offset + length homes.now < 2 ^ 64 }
-    ensures { IfOk result (λ v. map properties_view v.items
+    ensures properties { IfOk result (λ v. map properties_view v.items
         ≡ all_properties offset (homes_view homes.now)) }
+    ensures count { IfOk result (λ v. length v.items ≡ 2 * length homes.now) }
 {
     let mut properties = Vec::with_capacity(alloc, homes.len())?;
     for (index, home) in homes.iter().enumerate() {

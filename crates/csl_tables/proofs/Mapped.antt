@@ -1,5 +1,5 @@
 -- Where something else is asked for: tables, and what is asked for.
-use Rattle.std.proofs.Common.{◌≡◌, Bool, true, false, cond, not, Option, List, [], ◌∷◌, ◌++◌, filter, map, refl, ap, sym, ◌∙◌}
+use Rattle.std.proofs.Common.{◌≡◌, Bool, true, false, cond, not, List, [], ◌∷◌, ◌++◌, filter, map, refl, ap, sym, ◌∙◌}
 use Rattle.std.specs.Prelude.{is_some}
 use Rattle.std.specs.List.{zip}
 use Rattle.std.proofs.lemmas.List.{map-append}
@@ -7,7 +7,6 @@ use Rattle.std.proofs.lemmas.Simd.{map-map}
 use Rattle.csl_telling.specs.Told.{told_by_names}
 use Rattle.csl_mentions.specs.Groups.{group_of, is_chosen, text_of}
 use Rattle.csl_mentions.specs.Suffixes.{suffixes}
-use Rattle.csl_mentions.specs.declared.mention.Mention.{Mention}
 use Rattle.csl_mentions.specs.declared.state.MentionState.{MentionState}
 use Rattle.csl_mentions.specs.declared.written.Written.{Written}
 use Rattle.csl_tables.specs.Asked.{MentionsWriter, asked_as, asked_for, noted_all, task_as, untold}
@@ -33,8 +32,8 @@ module _ {M N : Type 0} (f : M → N) where
   changed-tasks changed (s ∷ ss) (state ∷ table) = by (changed state) (changed-tasks changed ss table)
     where
       by : (b : Bool) → map (task_as f) (tasks_where ss changed table) ≡ tasks_where (map (with_mention f) ss) changed table
-          → map (task_as f) (map (λ p. (p.0.mention, p.1)) (cond b ((s, state) ∷ filter (λ p. changed p.1) (zip ss table)) (filter (λ p. changed p.1) (zip ss table))))
-          ≡ map (λ p. (p.0.mention, p.1)) (cond b ((with_mention f s, state) ∷ filter (λ p. changed p.1) (zip (map (with_mention f) ss) table)) (filter (λ p. changed p.1) (zip (map (with_mention f) ss) table)))
+          → map (task_as f) (map (λ (p : Subject M × MentionState). (p.0.mention, p.1)) (cond b ((s, state) ∷ filter (λ p. changed p.1) (zip ss table)) (filter (λ p. changed p.1) (zip ss table))))
+          ≡ map (λ (p : Subject N × MentionState). (p.0.mention, p.1)) (cond b ((with_mention f s, state) ∷ filter (λ p. changed p.1) (zip (map (with_mention f) ss) table)) (filter (λ p. changed p.1) (zip (map (with_mention f) ss) table)))
       by true rest = ap (λ tasks. (f s.mention, state) ∷ tasks) rest
       by false rest = rest
 

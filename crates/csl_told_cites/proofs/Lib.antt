@@ -6,3 +6,4 @@ pub mod Triples
 pub mod Placed
 pub mod Telling
 pub mod Standing
+pub mod Whole

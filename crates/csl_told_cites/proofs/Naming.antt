@@ -90,10 +90,14 @@ known-next lasts k last within next known more so_far at n =
     at n ∙ (λ i. option_or (so_far n i) (cond (option_map_or (same_names n) last.names false) (Some (sym long i)) None)) ∙ sym (first-push (take k lasts) last n)
     ∙ ap (λ l. first_with_names l n) (sym next)
 
+-- what was kept of a mention at last
+abbrev last_of_pair : KeptOfMention × Option KeptOfMention → KeptOfMention
+last_of_pair p = unwrap_or p.1 p.0
+
 module _ (firsts : List KeptOfMention) (again : List (Option KeptOfMention)) (k : ℕ) where
   pub lasts-all : min (length firsts) (length again) ≤ k → take k (kept_last firsts again) ≡ kept_last firsts again
   lasts-all past =
-      take_all k (kept_last firsts again) (subst (λ n. n ≤ k) (sym (length-map (zip firsts again) (λ p. unwrap_or p.1 p.0) ∙ length-zip firsts again)) past)
+      take_all k (kept_last firsts again) (subst (λ n. n ≤ k) (sym (length-map (zip firsts again) last_of_pair ∙ length-zip firsts again)) past)
 
   module _ (first : KeptOfMention) (more : Option KeptOfMention) (within : k < length firsts) (there : k < length again) (here : first ≡ get_or firsts k first) (beside : more ≡ get_or again k more) where
     both-there : k < length (zip firsts again)
@@ -103,12 +107,12 @@ module _ (firsts : List KeptOfMention) (again : List (Option KeptOfMention)) (k 
     pair-here = zip-at k firsts again first more within there here beside
 
     pub last-there : k < length (kept_last firsts again)
-    last-there = subst (λ n. k < n) (sym (length-map (zip firsts again) (λ p. unwrap_or p.1 p.0))) both-there
+    last-there = subst (λ n. k < n) (sym (length-map (zip firsts again) last_of_pair)) both-there
 
     pub lasts-next : (last : KeptOfMention) → last ≡ unwrap_or more first → take (k + 1) (kept_last firsts again) ≡ take k (kept_last firsts again) ++ last ∷ []
     lasts-next last is =
         take-next k (kept_last firsts again) last last-there
-        (is ∙ ap (λ p. unwrap_or p.1 p.0) pair-here ∙ sym (get_or-map (λ p. unwrap_or p.1 p.0) (zip firsts again) k (first, more)) ∙ ap (get_or (kept_last firsts again) k) (sym is))
+        (is ∙ ap last_of_pair pair-here ∙ sym (get_or-map last_of_pair (zip firsts again) k (first, more)) ∙ ap (get_or (kept_last firsts again) k) (sym is))
 
     -- what is known of one more mention
     pub told-next : (texts : List (Option ℕ)) (text d : Option ℕ) → k < length texts → text ≡ get_or texts k d → (number : ShownNames → Option ℕ) (found all : List ToldMention) (one : ToldMention)

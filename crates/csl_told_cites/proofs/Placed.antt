@@ -13,7 +13,7 @@ use Rattle.csl_passes.specs.Request.{RequestedCite, Request}
 use Rattle.csl_told_cites.specs.ByPlaces.{index_at, plain_cites_at, plain_request_at, plain_requests_at}
 use Rattle.csl_told_cites.specs.Requests.{plain_cite, plain_requests, request_facts}
 use Rattle.csl_told_cites.specs.declared.mentions.ToldMention.{ToldMention}
-use Rattle.csl_told_cites.proofs.Triples.{seen-here, seen-there, triple-next, triples}
+use Rattle.csl_told_cites.proofs.Triples.{seen-here, seen-there, triple-next}
 
 module _ {E P : Type 0} (mentions : List ToldMention) (suffixes : List (Option ℕ)) (l : Listed) (eq : E → E → Bool) (entries listed : List E) (is : IsListingOf eq entries listed l) where
   of-request : (cs : List (RequestedCite E P)) (ns : List CiteNotes)

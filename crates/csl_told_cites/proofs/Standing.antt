@@ -1,5 +1,5 @@
 -- The cites of requests in their final order are those of the requests, know where their entries stand in the table, and cite the entries of the table.
-use Rattle.std.proofs.Common.{◌≡◌, ℕ, zero, suc, ◌+◌, Bool, true, false, ◌||◌, Option, Some, None, List, [], ◌∷◌, ◌++◌, All, length, map, refl, ap, sym, subst, ◌∙◌, arith}
+use Rattle.std.proofs.Common.{◌≡◌, ℕ, zero, suc, ◌+◌, Bool, false, ◌||◌, Option, Some, None, List, [], ◌∷◌, ◌++◌, All, length, map, refl, ap, sym, subst, ◌∙◌, arith}
 use Rattle.std.specs.Prelude.{filter_map, flat_map, option_map, slice_get}
 use Rattle.std.specs.List.{AllZip, cons_option, list_any, range_with_len, zip}
 use Rattle.std.specs.List.Sorted.{IsPermutation}
@@ -16,16 +16,13 @@ use Rattle.csl_entries.specs.Entries.{distinct, is_in, place}
 use Rattle.csl_entries.specs.PlacedItems.{ArePlaced, IsPlaced}
 use Rattle.csl_entries.specs.Table.{places_in, table_of}
 use Rattle.csl_entries.proofs.Distinct.{is_in-distinct}
-use Rattle.csl_passes.specs.Renders.{CiteRender, ItemRender}
+use Rattle.csl_passes.specs.Renders.{ItemRender}
 use Rattle.csl_passes.specs.Request.{RequestedCite, Request, cited, entries_of}
 use Rattle.csl_told_cites.specs.Cites.{ToldValue, told_at, told_cite, told_cites}
 
 zip-first : {A B : Type 0} (xs : List A) (ys : List B) (k : ℕ) (p : A × B) → slice_get (zip xs ys) k ≡ Some p → slice_get xs k ≡ Some p.0
-zip-first [] ys k p h = h-none k h
-  where
-    h-none : (k : ℕ) → slice_get [] k ≡ Some p → slice_get [] k ≡ Some p.0
-    h-none zero h = cc
-    h-none (suc k) h = cc
+zip-first [] ys zero p h = cc
+zip-first [] ys (suc k) p h = cc
 zip-first (x ∷ xs) [] zero p h = cc
 zip-first (x ∷ xs) [] (suc k) p h = cc
 zip-first (x ∷ xs) (y ∷ ys) zero p h = cc

@@ -1,5 +1,5 @@
 -- Cites as they are arranged in the end.
-use Rattle.std.specs.Prelude.{ℕ, Bool, ◌||◌, List, None, Option, Some, codes, encode_utf8, slice_index_or, unwrap_or}
+use Rattle.std.specs.Prelude.{ℕ, ◌||◌, List, None, Option, Some, codes, encode_utf8, slice_index_or, unwrap_or}
 use Rattle.std.specs.List.{zip}
 use Rattle.std.specs.Option.{option_or}
 use Rattle.csl_style_values.specs.Style.{CitationValue}

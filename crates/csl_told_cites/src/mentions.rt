@@ -161,8 +161,11 @@ pub fn told_mentions(
     ensures { IfOk result (λ v. v.items
         ≡ told_mentions told.now.firsts.items told.now.again.items told.now.texts.items) }
 {
-    let noted = noted_names(alloc, &told.firsts, &told.again)?;
-    mentions_by(alloc, &noted, &told.firsts, &told.again, &told.texts)
+    let firsts = told.firsts.as_slice();
+    let again = told.again.as_slice();
+    let texts = told.texts.as_slice();
+    let noted = noted_names(alloc, firsts, again)?;
+    mentions_by(alloc, &noted, firsts, again, texts)
 }
 
 /// A mention of which nothing is known.
@@ -191,7 +194,8 @@ fn mention_index(entry: usize, is_first: bool) -> usize
 pub fn by_mention<X>(all: &[X], entry: usize, is_first: bool) -> Option<&X>
     ensures { option_map (λ x. x.now) result ≡ slice_get all.now (mention_index entry is_first) }
 {
-    if entry > all.len() / 2 {
+    let half = all.len() / 2;
+    if entry > half {
         return None;
     }
     all.get(mention_index(entry, is_first))

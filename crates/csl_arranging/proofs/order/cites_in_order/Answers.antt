@@ -2,14 +2,11 @@ use Rattle.std.proofs.Common.{refl}
 use Rattle.csl_arranging.proofs.Ordering.{ordered-next, place-within}
 use Rattle.csl_arranging.proofs.order.cites_in_order.Goals as goal
 
-pub bounds-cite-cites-placed_place : goal.bounds-cite-cites-placed_place
-bounds-cite-cites-placed_place g c = place-within c.args.cites.now c.args.order.now c.loop-placed.placed-index _ _ c.loop-placed-test.true refl c.requires
-
 pub loop-placed-preserved : goal.loop-placed-preserved
 loop-placed-preserved g c =
     let cites = c.args.cites.now in
     let order = c.args.order.now in
     let k = c.loop-placed.placed-index in
     let within = c.loop-placed-test.true in
-    ordered-next cites order k _ _ within refl c.index-cites-cite.result (place-within cites order k _ _ within refl c.requires) c.index-cites-cite.is c.loop-placed.found.items c.push.new.self.items
+    ordered-next cites order k _ _ within refl c.index-cites-place.result (place-within cites order k _ _ within refl c.requires) c.index-cites-place.is c.loop-placed.found.items c.push.new.self.items
     c.loop-placed.invariant c.in_ok-push.ensures.items

@@ -1,10 +1,23 @@
-use Rattle.std.proofs.Common.{◌+◌, ◌*◌, arith}
+use Rattle.std.proofs.Common.{◌+◌, ◌*◌, refl}
 use Rattle.csl_lookup.specs.PropertiesView.{properties_view}
 use Rattle.csl_requested_mentions.specs.HomeView.{home_view}
 use Rattle.csl_requested_mentions.specs.Mentions.{mention, mention_properties}
 use Rattle.csl_requested_mentions.specs.Plain.{plain}
 use Rattle.csl_requested_mentions.proofs.Pairing.{first-seen, second-seen, two-all, two-more}
 use Rattle.csl_requested_mentions.proofs.mentions.mentions.Goals as goal
+
+pub loop-index-preserved : goal.loop-index-preserved
+loop-index-preserved g c = λ offset are.
+    let homes = c.args.homes.now in
+    let all = c.args.properties.now in
+    let k = c.loop-index.index in
+    let h = c.index-homes-index.result in
+    let within = c.loop-index-test.true in
+    let here = c.index-homes-index.is in
+    let first = first-seen mention_properties home_view properties_view homes all offset are k h within here c.index-properties.result.now c.bounds-properties c.index-properties.is in
+    let second = second-seen mention_properties home_view properties_view homes all offset are k h within here c.index-properties-in-loop-index.result.now c.bounds-properties-in-loop-index c.index-properties-in-loop-index.is in
+    two-more (mention offset) home_view plain homes k k h within here c.loop-index.mentions.items c.push.new.self.items c.push-in-loop-index.new.self.items c.mention.result c.mention-in-loop-index.result _
+    (c.loop-index.invariant offset are) c.in_ok-push.ensures.items c.in_ok-push-in-loop-index.ensures.items (c.mention.ensures offset first) (c.mention-in-loop-index.ensures offset second) (k + 1) refl
 
 pub returns : goal.returns
 returns g c = λ offset are.

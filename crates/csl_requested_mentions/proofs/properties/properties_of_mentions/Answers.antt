@@ -1,8 +1,9 @@
-use Rattle.std.proofs.Common.{◌+◌, arith}
+use Rattle.std.proofs.Common.{◌≡◌, ◌+◌, ◌*◌, ap, arith, length, map, sym, ◌∙◌}
+use Rattle.std.proofs.lemmas.List.{length-map}
 use Rattle.csl_lookup.specs.PropertiesView.{properties_view}
-use Rattle.csl_requested_mentions.specs.HomeView.{home_view}
-use Rattle.csl_requested_mentions.specs.Mentions.{mention_properties}
-use Rattle.csl_requested_mentions.proofs.Pairing.{two-all, two-more}
+use Rattle.csl_requested_mentions.specs.HomeView.{home_view, homes_view}
+use Rattle.csl_requested_mentions.specs.Mentions.{all_properties, mention_properties}
+use Rattle.csl_requested_mentions.proofs.Pairing.{length-two, two-all, two-more}
 use Rattle.csl_requested_mentions.proofs.properties.properties_of_mentions.Goals as goal
 
 pub loop-index-preserved : goal.loop-index-preserved
@@ -14,4 +15,11 @@ loop-index-preserved g c =
 
 pub returns : goal.returns
 returns g c =
-    two-all mention_properties home_view properties_view c.args.homes.now c.loop-index.index _ c.loop-index.properties.items _ c.loop-index-test.false c.loop-index.invariant
+    let homes = c.args.homes.now in
+    let items = c.loop-index.properties.items in
+    let made : map properties_view items ≡ all_properties c.args.offset (homes_view homes) =
+    two-all mention_properties home_view properties_view homes c.loop-index.index _ items _ c.loop-index-test.false c.loop-index.invariant in
+    record {
+      properties = made;
+      count = sym (length-map items properties_view) ∙ ap length made ∙ length-two mention_properties c.args.offset (homes_view homes) ∙ ap (λ n. 2 * n) (length-map homes home_view);
+    }

@@ -1,4 +1,4 @@
-use Rattle.std.proofs.Common.{ℕ, ◌<◌, ◌≤◌, ap, arith, get_or, length, min, refl}
+use Rattle.std.proofs.Common.{ℕ, ◌<◌, ◌≤◌, arith, length, min, refl}
 use Rattle.std.specs.List.{zip}
 use Rattle.csl_style_values.specs.StyleView.{citation_view}
 use Rattle.csl_passes.specs.RendersView.{item_view, items_view}

@@ -1,4 +1,4 @@
-use Rattle.std.proofs.Common.{ℕ, [], ◌∷◌, ◌++◌, ◌<◌, ◌≤◌, ap, append-nil, arith, length, map, min, refl, sym, ◌∙◌}
+use Rattle.std.proofs.Common.{ℕ, [], ◌∷◌, ◌++◌, ◌<◌, ◌≤◌, ap, append-nil, arith, length, min, refl, sym, ◌∙◌}
 use Rattle.std.proofs.lemmas.List.{map-append}
 use Rattle.csl_passes.specs.RendersView.{item_view, items_view}
 use Rattle.csl_passes.specs.RequestView.{cite_view, request_view}
