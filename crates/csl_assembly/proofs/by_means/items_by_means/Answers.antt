@@ -35,7 +35,7 @@ loop-k-preserved g c =
     let none_told : ItemMeans = record { choose = false; suffix = None } in
     let place : Place = get_or firsts k (0, 0) in
     let own : ItemMeans = get_or means k none_told in
-    let at = ((0, 0), none_told) in
+    let nowhere : Place × ItemMeans = ((0, 0), none_told) in
     let here = pair-here firsts means k (0, 0) none_told first_within means_within in
     let cites = renders_view c.args.cites.now in
     let found_at : Place × ItemMeans → Option (ItemRender E P × ItemMeans) = cite_with_means cites in
@@ -58,18 +58,18 @@ loop-k-preserved g c =
           let item : made ≡ write written first =
           written_by_same (λ (v : Writing E P). write v first) writes written made (writes-same g.T.EntryLike.answers asked old before was.asked) w.in_ok-item.ensures.item in
           record {
-            items = made-more found_at (write written) pairs k at (place, own) within here (rendered_items_view c.loop-k.items.items) _ was.items first _ there
+            items = made-more found_at (write written) pairs k nowhere (place, own) within here (rendered_items_view c.loop-k.items.items) _ was.items first _ there
                 (ap (λ v. rendered_items_view v.items) w.items-is ∙ ap rendered_items_view w.in_ok-push.ensures
                 ∙ map-append (λ p. (p.0, string_bytes p.1)) c.loop-k.items.items (w.in_ok-item.item ∷ []) ∙ ap (λ z. rendered_items_view c.loop-k.items.items ++ z ∷ []) item);
             asked = (λ i. desk (g.W.CiteWriter.state (w.writer-is i)) (w.counter-is i))
-                ∙ asked-found pairs k at (place, own) within here task_of old before _ found_at first there was.asked w.in_ok-item.ensures.asked;
+                ∙ asked-found pairs k nowhere (place, own) within here task_of old before _ found_at first there was.asked w.in_ok-item.ensures.asked;
           }
       | in_default w ↦
           let none : found_at (place, own) ≡ None = found ∙ ap (option_map (λ i. (item_view i.now, own))) w.in_default.is in
           record {
             items = ap (λ v. rendered_items_view v.items ++ map (write written) (filter_map found_at (drop (k + 1) pairs))) w.items-is
-                ∙ made-none found_at (write written) pairs k at (place, own) within here (rendered_items_view c.loop-k.items.items) _ was.items none;
-            asked = (λ i. desk (g.W.CiteWriter.state (w.writer-is i)) (w.counter-is i)) ∙ asked-none pairs k at (place, own) within here task_of old before before found_at none was.asked;
+                ∙ made-none found_at (write written) pairs k nowhere (place, own) within here (rendered_items_view c.loop-k.items.items) _ was.items none;
+            asked = (λ i. desk (g.W.CiteWriter.state (w.writer-is i)) (w.counter-is i)) ∙ asked-none pairs k nowhere (place, own) within here task_of old before before found_at none was.asked;
           }
     ]
 
