@@ -11,7 +11,13 @@ ghost use Rattle.csl_writers.specs.Desk.{after, desk};
 ghost use Rattle.csl_writers.specs.Tasks.{item_task};
 ghost use Rattle.csl_writers.specs.Writing.{writing_of};
 ghost use Rattle.csl_assembly.specs.BibliographyItems.{item_by};
-ghost use Rattle.csl_assembly.specs.ByMeans.{bibliography_by_means, cites_with_means, properties_by, task_by, tasks_by_means};
+ghost use Rattle.csl_assembly.specs.ByMeans.{
+  bibliography_by_means,
+  cites_with_means,
+  properties_by,
+  task_by,
+  tasks_by_means,
+};
 
 use crate::bibliography::{bibliography_with, cite_at, item_by_properties};
 use crate::rendered::RenderedBibliography;

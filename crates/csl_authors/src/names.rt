@@ -2,7 +2,15 @@
 ghost use Rattle.std.specs.Prelude.{◌≡◌, ◌∷◌, ◌++◌, [], IfOk, OnOk};
 ghost use Rattle.csl_trees.specs.ChildView.{child_view};
 ghost use Rattle.csl_trees.specs.Tree.{plain};
-ghost use Rattle.csl_authors.specs.Names.{child_names, is_name, names_in, names_of, names_within, persons_of, variables_of};
+ghost use Rattle.csl_authors.specs.Names.{
+  child_names,
+  is_name,
+  names_in,
+  names_of,
+  names_within,
+  persons_of,
+  variables_of,
+};
 
 use crate::repeated::ItemNames;
 use csl_lists::seq::Seq;

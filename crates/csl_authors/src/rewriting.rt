@@ -3,7 +3,13 @@ ghost use Rattle.std.specs.Prelude.{◌≡◌, ◌-◌, ◌∷◌, [], length, I
 ghost use Rattle.csl_trees.specs.Child.{text};
 ghost use Rattle.csl_trees.specs.ChildView.{child_view};
 ghost use Rattle.csl_authors.specs.Names.{child_names, names_within};
-ghost use Rattle.csl_authors.specs.Substitution.{child_written, elem_substituted, names_substituted, names_written, tree_substituted};
+ghost use Rattle.csl_authors.specs.Substitution.{
+  child_written,
+  elem_substituted,
+  names_substituted,
+  names_written,
+  tree_substituted,
+};
 
 use crate::names::is_name;
 use crate::repeated::Substituted;

@@ -1,7 +1,12 @@
 //! Repeated authors replaced in all items of a bibliography.
 ghost use Rattle.std.specs.Prelude.{◌≡◌, ◌≤◌, length, map, option_map, IfOk, OnOk};
 ghost use Rattle.csl_authors.specs.Names.{names_of};
-ghost use Rattle.csl_authors.specs.Substitution.{each_substituted, items_view, repeats, with_substitute};
+ghost use Rattle.csl_authors.specs.Substitution.{
+  each_substituted,
+  items_view,
+  repeats,
+  with_substitute,
+};
 
 use crate::names::names_of;
 use crate::repeated::{ItemNames, Substituted, repeated_authors};
