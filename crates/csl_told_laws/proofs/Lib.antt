@@ -1,0 +1,14 @@
+mod Listing
+mod Settled
+mod Fuller
+mod Choosing
+mod Classing
+mod Counted
+mod Paired
+mod Bounded
+mod Sparing
+mod Apart
+mod Appearing
+mod Placing
+mod NamesTelling
+mod Kept
