@@ -151,7 +151,7 @@ pub unlike : (p q : Person) (f h : DisambiguatedNameForm) → same_look (full_lo
     → extent (needed (full_look q) (full_look q ∷ full_look p ∷ [])) ≤ extent h
     → look f p ≢ look h q
 unlike p q f h apart one other e =
-    named q.name (ap (λ l. l.name) e) apart one other
+    named q.name (ap (λ (l : Look). l.name) e) apart one other
   where
     named : (name : List ℕ) → p.name ≡ name → same_look (full_look p) (in_full name (given_name q)) ≡ false
         → extent (needed (full_look p) (full_look p ∷ in_full name (given_name q) ∷ [])) ≤ extent f
@@ -161,4 +161,4 @@ unlike p q f h apart one other e =
         subst (λ n. same_look (full_look p) (in_full n (given_name q)) ≡ false
         → extent (needed (full_look p) (full_look p ∷ in_full n (given_name q) ∷ [])) ≤ extent f
         → extent (needed (in_full n (given_name q)) (in_full n (given_name q) ∷ full_look p ∷ [])) ≤ extent h → ⊥) same
-        (λ a b c. one-name p.name f h (given_name p) (given_name q) a (differ-back (full_look p) (in_full p.name (given_name q)) a) b c (ap (λ l. l.given) e))
+        (λ a b c. one-name p.name f h (given_name p) (given_name q) a (differ-back (full_look p) (in_full p.name (given_name q)) a) b c (ap (λ (l : Look). l.given) e))

@@ -40,14 +40,6 @@ fold-above f (g ∷ gs) =
     let one = greater-extent f g in
     omega (arith, more, one)
 
-fold-member : (f : DisambiguatedNameForm) (fs : Forms) (k : ℕ) (d : DisambiguatedNameForm) → k < length fs → extent (get_or fs k d) ≤ extent (fold greater f fs)
-fold-member f [] k d h = absurd (omega arith)
-fold-member f (g ∷ gs) zero d h =
-    let more = fold-above (greater f g) gs in
-    let one = greater-extent f g in
-    omega (arith, more, one)
-fold-member f (g ∷ gs) (suc k) d h = fold-member (greater f g) gs k d (omega arith)
-
 pub base-written : (own : Forms) → 1 ≤ extent (base own)
 base-written own = fold-above DisambiguatedNameForm.Short own
 
@@ -183,11 +175,12 @@ module _ {X : Type 0} where
           let more = fold-above (greater s (f y)) (map f (filter p ys)) in
           omega (arith, here, one, more)
       by false e = absurd (true≢false (sym e))
-  form-member f p s (y ∷ ys) (suc k) x there passes = by (p y)
+  form-member f p s (y ∷ ys) (suc k) x there passes = by (p y) (form-member f p (greater s (f y)) ys k x there passes) (form-member f p s ys k x there passes)
     where
-      by : (b : Bool) → extent (f x) ≤ extent (fold greater s (map f (cond b (y ∷ filter p ys) (filter p ys))))
-      by true = form-member f p (greater s (f y)) ys k x there passes
-      by false = form-member f p s ys k x there passes
+      by : (b : Bool) → extent (f x) ≤ extent (fold greater (greater s (f y)) (map f (filter p ys))) → extent (f x) ≤ extent (fold greater s (map f (filter p ys)))
+          → extent (f x) ≤ extent (fold greater s (map f (cond b (y ∷ filter p ys) (filter p ys))))
+      by true kept left = kept
+      by false kept left = left
 
 -- ---- what is shown
 

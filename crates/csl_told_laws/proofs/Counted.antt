@@ -98,7 +98,7 @@ module _ (laters : List Mention) where
 
     pub entry-at : (e : ℕ) (m : Mention) → slice_get laters e ≡ Some m → m.entry ≡ e
     entry-at e m h =
-        range-at 0 n e m.entry (sym (ap (λ l. slice_get l e) entries) ∙ slice_get-map (λ x. x.entry) laters e ∙ ap (option_map (λ x. x.entry)) h) ∙ zero-plus e
+        range-at 0 n e m.entry (sym (ap (λ l. slice_get l e) entries) ∙ slice_get-map (λ (x : Mention). x.entry) laters e ∙ ap (option_map (λ (x : Mention). x.entry)) h) ∙ zero-plus e
       where
         zero-plus : (a : ℕ) → 0 + a ≡ a
         zero-plus a = omega arith

@@ -97,8 +97,8 @@ module _ {M : Type 0} (write : M → MentionState → Written) (subjects : List 
         (λ s. record { names = tt; choice = λ e. absurd (true≢false (sym e)) }) subjects;
     second_step = all-of-maps StateRises (with_names write subjects) (settled write subjects)
         (λ s. record { names = names-stay (with_names write subjects s).names; choice = λ e. absurd (true≢false (sym e)) }) subjects;
-    choices_stay = map-map (λ s. s.chosen) (with_names write subjects) subjects ∙ sym (map-map (λ s. s.chosen) (λ s. untold) subjects);
-    names_stay = map-map (λ s. s.names) (settled write subjects) subjects ∙ sym (map-map (λ s. s.names) (with_names write subjects) subjects);
+    choices_stay = map-map (λ (s : MentionState). s.chosen) (with_names write subjects) subjects ∙ sym (map-map (λ (s : MentionState). s.chosen) (λ s. untold) subjects);
+    names_stay = map-map (λ (s : MentionState). s.names) (settled write subjects) subjects ∙ sym (map-map (λ (s : MentionState). s.names) (with_names write subjects) subjects);
     fuller = subst (All (HasFullerNames write subjects)) (sym (zip-map (settled write subjects) subjects))
         (All-map (HasFullerNames write subjects) (λ s. (s, settled write subjects s)) subjects
         (all-every (λ s. HasFullerNames write subjects (s, settled write subjects s)) each subjects));

@@ -277,10 +277,10 @@ module _ (ms : List NamedMention) where
             let own_long = length-map m.names (λ n. n.own) in
             let none : list_any only_counts (forms_of m) ≡ false =
             none-left-out (base own) (count_of m) (least_form ms m) 0 own (base-written own) (omega (arith, own_long, all_m, long, before)) in
-            let none_too : list_any only_counts (forms_of x) ≡ false = sym (ap (λ p. p.1) e) ∙ none in
+            let none_too : list_any only_counts (forms_of x) ≡ false = sym (ap (λ (p : List Look × Bool). p.1) e) ∙ none in
             let one = all-shown m.names (forms_of m) (forms-long m) none in
             let other = all-shown x.names (forms_of x) (forms-long x) none_too in
-            let same = ap (λ p. length p.0) e in
+            let same = ap (λ (p : List Look × Bool). length p.0) e in
             omega (arith, one, other, same, all_m, all_x, long, goes)
         by false all_m all_x =
             let own = own_forms m.names in
@@ -306,7 +306,7 @@ module _ (ms : List NamedMention) where
                     let form = raised_form (base (own_forms x.names)) (count_of x) i (least_form ms x i) at.name.own in
                     let form-is : slice_get (forms_of x) i ≡ Some form = form-at (own_forms x.names) (count_of x) (least_form ms x) i at.name.own (own-at x i at.name at.there) in
                     let it = shown-at x.names (forms_of x) i at.name form at.there form-is (λ j g k there. own-shown x j g (omega (arith, k, further)) there) in
-                    none-some (look form at.name.person) (sym none ∙ ap (λ p. slice_get p.0 i) e ∙ it)
+                    none-some (look form at.name.person) (sym none ∙ ap (λ (p : List Look × Bool). slice_get p.0 i) e ∙ it)
 
   -- of two mentions of a group
   module _ (m x : NamedMention) (k l : ℕ) (at_m : slice_get ms k ≡ Some m) (at_x : slice_get ms l ≡ Some x) (can : NamesCanTell ms m x) where
@@ -354,7 +354,7 @@ module _ (ms : List NamedMention) where
       apart-by (Some r) None p q d e =
           ends f x m i too first can.leading_too (ended-too q) (slice_get_within (reach ms m).looks i r p) (needs-before f x m k too at_m back i differ-back) (sym e)
       apart-by (Some r) (Some s) p q d e =
-          go-on f m x i r s (appears f m x l first at_x can.one_group i differ r s p q) (appears f x m k too at_m back i differ-back s r q p) d (ap (λ t. t.0) e)
+          go-on f m x i r s (appears f m x l first at_x can.one_group i differ r s p q) (appears f x m k too at_m back i differ-back s r q p) d (ap (λ (t : List Look × Bool). t.0) e)
 
       told-apart : shown_by m.names (forms_of m) ≢ shown_by x.names (forms_of x)
       told-apart = apart-by (slice_get (reach ms m).looks i) (slice_get (reach ms x).looks i) refl refl unlike-there
