@@ -1,7 +1,6 @@
 -- Two persons whose looks in full differ look unlike in the forms that they need beside each other.
 use Rattle.std.proofs.Common.{◌≡◌, ◌≢◌, ℕ, ◌≤◌, Bool, true, false, cond, not, ◌&&◌, ◌||◌, Some, None, Option, List, [], ◌∷◌, filter, refl, ap, sym, subst, ◌∙◌, arith, true≢false}
 use Rattle.std.specs.Prelude.{bytes_eq}
-use Rattle.std.specs.List.{list_any}
 use Rattle.csl_values.specs.Finds.{texts_find}
 use Rattle.csl_values.specs.Initials.{given_initials}
 use Rattle.csl_values.specs.Ordered.{extent}

@@ -1,6 +1,6 @@
 -- Names as they appear in forms.
-use Rattle.std.proofs.Common.{◌≡◌, ◌≢◌, ℕ, ◌+◌, ◌<◌, ◌≤◌, zero, suc, Bool, true, false, cond, not, ◌&&◌, ◌||◌, Some, None, Option, List, [], ◌∷◌, filter, filter_map, get_or, length, map, max, refl, ap, sym, subst, ◌∙◌, arith, true≢false}
-use Rattle.std.specs.Prelude.{fold, nat_lt, option_map, slice_get}
+use Rattle.std.proofs.Common.{◌≡◌, ℕ, ◌+◌, ◌<◌, ◌≤◌, zero, suc, Bool, true, false, cond, ◌||◌, Some, None, Option, List, [], ◌∷◌, filter, filter_map, length, map, refl, ap, sym, ◌∙◌, arith, true≢false}
+use Rattle.std.specs.Prelude.{fold, option_map, slice_get}
 use Rattle.std.specs.List.{cons_option, enumerate_from, list_any, zip}
 use Rattle.std.proofs.lemmas.Bool.{le-ltb, lt-ltb, or_parts}
 use Rattle.std.proofs.lemmas.Option.{none-some, same_Some, slice_get-map}
@@ -8,13 +8,13 @@ use Rattle.csl_values.specs.Finds.{lists_find}
 use Rattle.csl_values.specs.Forms.{Forms}
 use Rattle.csl_values.specs.Ordered.{extent}
 use Rattle.csl_values.specs.declared.names.DisambiguatedNameForm.{DisambiguatedNameForm}
-use Rattle.csl_telling.specs.Forms.{base, greater, greatest_form, only_counts, raised, raised_form, raised_forms, same_forms, written}
+use Rattle.csl_telling.specs.Forms.{base, greater, only_counts, raised, raised_form, raised_forms, same_forms, written}
 use Rattle.csl_telling.specs.Looks.{look}
 use Rattle.csl_telling.specs.Telling.{greatest}
 use Rattle.csl_telling.specs.declared.look.Look.{Look}
 use Rattle.csl_telling.specs.declared.mention.MentionedName.{MentionedName}
 use Rattle.csl_told_laws.specs.Shown.{forms_in, shown_name}
-use Rattle.csl_told_laws.proofs.Fuller.{greater-extent}
+use Rattle.csl_told_laws.proofs.Fuller.{greater-extent, some_names}
 use Rattle.csl_told_laws.proofs.Listing.{enumerated-at}
 use Rattle.csl_told_laws.proofs.Sparing.{forms_find}
 
@@ -101,7 +101,7 @@ raised-left b count i least DisambiguatedNameForm.LongFull e h = absurd (true≢
 pub forms-are : (own : Forms) (count : ℕ) (least : ℕ → DisambiguatedNameForm) → forms_in own (raised own count least) ≡ raised_forms own count least
 forms-are own count least = by (same_forms (raised_forms own count least) own) refl
   where
-    by : (b : Bool) → same_forms (raised_forms own count least) own ≡ b → forms_in own (cond b None (Some (record { forms = raised_forms own count least }))) ≡ raised_forms own count least
+    by : (b : Bool) → same_forms (raised_forms own count least) own ≡ b → forms_in own (cond b None (some_names (raised_forms own count least))) ≡ raised_forms own count least
     by true e = sym ((lists_find forms_find).equal (raised_forms own count least) own e)
     by false e = refl
 

@@ -1,7 +1,7 @@
 -- The condition holds exactly in mentions that tested it and read as another.
-use Rattle.std.proofs.Common.{◌≡◌, ◌≢◌, ◌↔◌, ℕ, Bool, true, false, not, ◌&&◌, List, [], ◌∷◌, length, map, refl, ap, sym, subst, ◌∙◌, true≢false}
+use Rattle.std.proofs.Common.{◌≡◌, ◌≢◌, ℕ, true, not, List, [], ◌∷◌, length, map, refl, ap, sym, subst, ◌∙◌, true≢false}
 use Rattle.std.specs.Prelude.{All, bytes_eq, nat_eq, ◌==◌}
-use Rattle.std.specs.List.{list_any, zip}
+use Rattle.std.specs.List.{list_any}
 use Rattle.std.proofs.Math.Dec.{eqb-suc-zero}
 use Rattle.std.proofs.lemmas.Bool.{and_from, and_parts, eqb-false, ne_eqb, not-true, not_from_false}
 use Rattle.std.proofs.lemmas.List.Elements.{All-map}

@@ -1,11 +1,10 @@
 -- Classes of later mentions that read alike.
-use Rattle.std.proofs.Common.{◌≡◌, ◌≢◌, ◌⊎◌, inl, inr, ℕ, ◌+◌, ◌<◌, ◌≤◌, Bool, true, false, cond, not, ◌&&◌, ◌||◌, Some, None, Option, List, [], ◌∷◌, filter, get_or, length, map, take, refl, ap, sym, subst, ◌∙◌, arith, true≢false}
-use Rattle.std.specs.Prelude.{bytes_eq, is_some, nat_eq}
+use Rattle.std.proofs.Common.{◌≡◌, ◌≢◌, ◌⊎◌, inl, inr, ℕ, ◌<◌, ◌≤◌, Bool, true, false, cond, ◌&&◌, ◌||◌, Some, None, Option, List, [], ◌∷◌, filter, get_or, length, take, refl, ap, sym, ◌∙◌, arith, true≢false}
+use Rattle.std.specs.Prelude.{is_some}
 use Rattle.std.specs.List.{list_any}
-use Rattle.std.proofs.lemmas.Bool.{and_from, and_parts, cases_order, eq-eqb, eqb-true}
+use Rattle.std.proofs.lemmas.Bool.{and_from, cases_order, eq-eqb, eqb-true}
 use Rattle.std.proofs.lemmas.List.{get_or_default, take_all}
 use Rattle.std.proofs.lemmas.List.Folds.{Any-from_list_any, list_any_at}
-use Rattle.std.proofs.lemmas.Option.{none-some}
 use Rattle.csl_telling.specs.Telling.{in_one_group}
 use Rattle.csl_mentions.specs.Groups.{first_with, group_of, has_text, is_ambiguous, is_rival}
 use Rattle.csl_mentions.specs.Suffixes.{gets_suffixes, is_in_class}

@@ -1,9 +1,9 @@
 -- The suffixes of a class count its entries.
-use Rattle.std.proofs.Common.{◌≡◌, ◌≢◌, ◌⊎◌, ℕ, ◌+◌, ◌<◌, zero, suc, Bool, true, false, cond, not, ◌&&◌, ◌||◌, Some, None, Option, List, [], ◌∷◌, ◌++◌, filter, flat_map, get_or, length, map, take, refl, ap, sym, subst, ◌∙◌, arith, inl, inr, append_assoc, true≢false}
+use Rattle.std.proofs.Common.{◌≡◌, ◌≢◌, ◌⊎◌, ℕ, ◌+◌, ◌<◌, Bool, true, false, cond, ◌&&◌, ◌||◌, Some, None, Option, List, [], ◌∷◌, ◌++◌, filter, length, map, take, refl, ap, sym, ◌∙◌, arith, inl, inr, append_assoc}
 use Rattle.std.specs.Prelude.{option_and_then, option_map, slice_get}
-use Rattle.std.specs.List.{enumerate_from, list_any, range_with_len, zip}
+use Rattle.std.specs.List.{enumerate_from, range_with_len, zip}
 use Rattle.std.proofs.lemmas.Bool.{and_from, cases_order, or_cases}
-use Rattle.std.proofs.lemmas.List.{length_push, length-append, length-map, take_at}
+use Rattle.std.proofs.lemmas.List.{length_push, length-map, take_at}
 use Rattle.std.proofs.lemmas.List.Elements.{filter-append}
 use Rattle.std.proofs.lemmas.List.FromFn.{length-enumerate_from, length-range_with_len}
 use Rattle.std.proofs.lemmas.List.Folds.{list_any_at}
@@ -12,7 +12,7 @@ use Rattle.csl_telling.specs.Telling.{in_one_group}
 use Rattle.csl_mentions.specs.Groups.{group_of}
 use Rattle.csl_mentions.specs.Suffixes.{gets_suffixes, is_in_class, suffix_of, suffixes}
 use Rattle.csl_mentions.specs.declared.mention.Mention.{Mention}
-use Rattle.csl_told_laws.specs.SuffixLaws.{HaveOtherSuffixes, NothingIsLeft, ReadAlike, SuffixesCount, members_of, suffix_at, suffixes_in}
+use Rattle.csl_told_laws.specs.SuffixLaws.{HaveOtherSuffixes, NothingIsLeft, ReadAlike, SuffixesCount, suffix_at}
 use Rattle.csl_told_laws.proofs.Classing.{OfOneClass, in-class, one-class, own-class, two-at-least}
 use Rattle.csl_told_laws.proofs.Listing.{counts-rise, enumerated-at, range-at}
 

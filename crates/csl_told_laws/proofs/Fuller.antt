@@ -1,7 +1,7 @@
 -- States grow.
-use Rattle.std.proofs.Common.{◌≡◌, ℕ, ◌+◌, ◌<◌, ◌≤◌, Bool, true, false, cond, ◌&&◌, IfSome, Some, None, Option, List, [], ◌∷◌, map, max, refl, ap, sym, subst, ◌∙◌, arith, true≢false}
+use Rattle.std.proofs.Common.{◌≡◌, ℕ, ◌+◌, ◌<◌, ◌≤◌, Bool, true, false, cond, ◌&&◌, IfSome, Some, None, Option, List, [], ◌∷◌, map, max, refl, sym, subst, ◌∙◌, arith, true≢false}
 use Rattle.std.specs.Prelude.{All, Any}
-use Rattle.std.specs.List.{AllZip, enumerate_from, zip}
+use Rattle.std.specs.List.{enumerate_from, zip}
 use Rattle.std.proofs.lemmas.List.Elements.{All-map}
 use Rattle.csl_values.specs.Forms.{Forms}
 use Rattle.csl_values.specs.Ordered.{extent}
@@ -72,13 +72,16 @@ somewhere (o ∷ os) (f ∷ fs) h e = by (same_form f o) refl e (somewhere os fs
     by true s e later = any-later Above (o, f) (zip os fs) (later e)
     by false s e later = any-here Above (o, f) (zip os fs) (above-others o f h.0 s)
 
+abbrev pub some_names : Forms → Option NameDisambiguationProperties
+some_names forms = Some (record { forms = forms })
+
 fuller : (own : Forms) (count : ℕ) (least : ℕ → DisambiguatedNameForm) → IfSome (raised own count least) (λ n. AreFuller own n.forms)
 fuller own count least = by (same_forms (raised_forms own count least) own) refl
   where
     rise : FormsRise own (raised_forms own count least)
     rise = raised-rise (base own) count least 0 own
 
-    by : (b : Bool) → same_forms (raised_forms own count least) own ≡ b → IfSome (cond b None (Some (record { forms = raised_forms own count least }))) (λ n. AreFuller own n.forms)
+    by : (b : Bool) → same_forms (raised_forms own count least) own ≡ b → IfSome (cond b None (some_names (raised_forms own count least))) (λ n. AreFuller own n.forms)
     by true e = tt
     by false e = record { nowhere_below = rise; somewhere_above = somewhere own (raised_forms own count least) rise e }
 

@@ -1,5 +1,5 @@
 -- The tables keep all laws.
-use Rattle.std.proofs.Common.{◌≡◌, ℕ, List, map, ap, sym, subst, ◌∙◌}
+use Rattle.std.proofs.Common.{◌≡◌, ℕ, List, map, sym, subst}
 use Rattle.std.specs.List.{range_with_len}
 use Rattle.csl_mentions.specs.Suffixes.{suffixes}
 use Rattle.csl_mentions.specs.declared.mention.Mention.{Mention}

@@ -1,14 +1,14 @@
-mod Listing
-mod Settled
-mod Fuller
-mod Choosing
-mod Classing
-mod Counted
-mod Paired
-mod Bounded
-mod Sparing
-mod Apart
-mod Appearing
-mod Placing
-mod NamesTelling
-mod Kept
+pub mod Listing
+pub mod Settled
+pub mod Fuller
+pub mod Choosing
+pub mod Classing
+pub mod Counted
+pub mod Paired
+pub mod Bounded
+pub mod Sparing
+pub mod Apart
+pub mod Appearing
+pub mod Placing
+pub mod NamesTelling
+pub mod Kept

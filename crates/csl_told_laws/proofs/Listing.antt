@@ -1,5 +1,5 @@
 -- Lists that are made member by member, and what some of their members pass.
-use Rattle.std.proofs.Common.{◌≡◌, ◌⊎◌, ℕ, ◌+◌, ◌<◌, ◌≤◌, zero, suc, Bool, true, false, cond, ◌||◌, Some, None, Option, List, [], ◌∷◌, filter, get_or, length, map, take, refl, ap, sym, subst, ◌∙◌, arith, inl, inr, true≢false}
+use Rattle.std.proofs.Common.{◌≡◌, ℕ, ◌+◌, ◌<◌, ◌≤◌, zero, suc, Bool, true, false, cond, ◌||◌, Some, List, [], ◌∷◌, filter, get_or, length, map, take, refl, ap, sym, ◌∙◌, arith, true≢false}
 use Rattle.std.specs.Prelude.{All, Any, option_map, slice_get}
 use Rattle.std.specs.List.{AllZip, enumerate_from, list_any, range_with_len, zip}
 use Rattle.std.proofs.lemmas.Bool.{or_parts}

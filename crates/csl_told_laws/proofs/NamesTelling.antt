@@ -1,10 +1,10 @@
 -- Names that can tell mentions apart do.
-use Rattle.std.proofs.Common.{◌≡◌, ◌≢◌, ◌⊎◌, ℕ, ◌+◌, ◌<◌, ◌≤◌, zero, suc, min, Bool, true, false, cond, not, ◌&&◌, Some, None, Option, List, [], ◌∷◌, drop, filter, get_or, length, map, take, refl, ap, sym, subst, ◌∙◌, arith, inl, inr, ltb, true≢false, length-take}
-use Rattle.std.specs.Prelude.{All, AllPairs, nat_eq, option_map, slice_get, unwrap_or}
-use Rattle.std.specs.List.{enumerate_from, list_any, zip}
+use Rattle.std.proofs.Common.{◌≡◌, ◌≢◌, ◌⊎◌, ℕ, ◌+◌, ◌<◌, ◌≤◌, Bool, true, false, cond, not, ◌&&◌, Some, None, Option, List, [], ◌∷◌, get_or, length, map, take, refl, ap, sym, subst, ◌∙◌, arith, inl, inr, ltb, true≢false, length-take}
+use Rattle.std.specs.Prelude.{AllPairs, option_map, slice_get, unwrap_or}
+use Rattle.std.specs.List.{enumerate_from, list_any}
 use Rattle.std.specs.Option.{option_and_then, option_eq, option_map_or}
 use Rattle.std.proofs.lemmas.Bool.{and_from, and_parts, cases_Bool, eq-eqb, lt-ltb, ltb-true, not-true}
-use Rattle.std.proofs.lemmas.List.{get_or-map, get_or_default, length-map}
+use Rattle.std.proofs.lemmas.List.{get_or-map, length-map}
 use Rattle.std.proofs.lemmas.List.FromFn.{length-enumerate_from}
 use Rattle.std.proofs.lemmas.Option.{none-some, same_Some, slice_get-get_or, slice_get-map, slice_get_past, slice_get_within}
 use Rattle.csl_values.specs.Forms.{Forms}
@@ -15,7 +15,7 @@ use Rattle.csl_telling.specs.ByDocument.{document_form}
 use Rattle.csl_telling.specs.Forms.{base, greater, greatest_form, only_counts, raised_form, raised_forms, shown, written}
 use Rattle.csl_telling.specs.Looks.{full_look, look, needed, same_look}
 use Rattle.csl_telling.specs.Persons.{own_forms}
-use Rattle.csl_telling.specs.Reaches.{can_be_shown, first_member, is_by_cite, looks_in, reach, reach_by, reach_form}
+use Rattle.csl_telling.specs.Reaches.{can_be_shown, first_member, is_by_cite, reach, reach_by, reach_form}
 use Rattle.csl_telling.specs.Telling.{both_go_on, first_difference, form_against, form_beside, form_needed, group_of, in_one_group, names_against, names_needed}
 use Rattle.csl_telling.specs.Told.{least_form, told_by_names}
 use Rattle.csl_telling.specs.declared.look.Look.{Look}
@@ -111,9 +111,6 @@ module _ (ms : List NamedMention) where
   count-within m = greatest-within (names_against (reach ms m)) (length (reach ms m).looks) (against-within (reach ms m)) (group_of reaches (reach ms m))
 
   module _ (f : NamedMention) where
-    abbrev by_cite : Bool
-    by_cite = is_by_cite f.rule
-
     -- the look of a name in its greatest form
     abbrev reached : NamedMention → ℕ × MentionedName → Look
     reached m p = look (reach_form (is_by_cite f.rule) (base (own_forms m.names)) (document_form ms m.rule p.0 p.1) p.1.own) p.1.person
@@ -189,57 +186,48 @@ module _ (ms : List NamedMention) where
 
         -- what a group that adds no given names cite by cite needs
         needs-short : is_by_cite f.rule ≡ false → form_needed reaches (reach ms m) i ≡ DisambiguatedNameForm.Short
-        needs-short no = ap greatest_form (all-short (group_of reaches a)) ∙ greatest-short (group_of reaches a)
+        needs-short uncited = ap greatest_form (all-short (group_of reaches a)) ∙ greatest-short (group_of reaches a)
           where
             all-short : (bs : List Reach) → map (form_against i a) bs ≡ map (λ b. DisambiguatedNameForm.Short) bs
             all-short [] = refl
             all-short (b ∷ bs) =
-                λ t. cond ((cite-is m first ∙ no) t && is_place i (first_difference a.looks b.looks)) (form_beside (slice_get a.looks i) (slice_get b.looks i)) DisambiguatedNameForm.Short ∷ all-short bs t
+                λ t. cond ((cite-is m first ∙ uncited) t && is_place i (first_difference a.looks b.looks)) (form_beside (slice_get a.looks i) (slice_get b.looks i)) DisambiguatedNameForm.Short ∷ all-short bs t
 
         needs-enough : is_by_cite f.rule ≡ true → extent (needed r (r ∷ s ∷ [])) ≤ extent (form_needed reaches (reach ms m) i)
-        needs-enough yes =
+        needs-enough cited =
             let most = form-member (form_against i a) (λ b. in_one_group a.group b.group) DisambiguatedNameForm.Short reaches l c (reach-at l x at_x) together in
             let place : is_place i (first_difference a.looks c.looks) ≡ true = ap (is_place i) differ ∙ eq-eqb i i refl in
             let is : form_against i a c ≡ needed r (r ∷ s ∷ []) =
-            (λ t. cond ((cite-is m first ∙ yes) t && place t) (form_beside (is_r t) (is_s t)) DisambiguatedNameForm.Short) in
-            let same = ap extent is in
-            omega (arith, most, same)
+            (λ t. cond ((cite-is m first ∙ cited) t && place t) (form_beside (is_r t) (is_s t)) DisambiguatedNameForm.Short) in
+            subst (λ g. extent g ≤ extent (form_needed reaches (reach ms m) i)) is most
 
         appears : AppearsAt m i r s
         appears = made (name-at m first i r is_r)
           where
             made : NameAt m i r → AppearsAt m i r s
-            made at = record {
-              person = at.name.person;
-              form = form;
-              is_shown = shown-at m.names (forms_of m) i at.name form at.there form-is (λ j g h there. first-shown m j g (omega (arith, h, needs-it)) there);
-              as_reached = λ no.
-                  ap (λ g. look g at.name.person) ((λ t. greater (greater in_document (needs-short no t)) (written b at.name.own)) ∙ short-adds-nothing in_document (written b at.name.own) (own-written b at.name.own (base-written (own_forms m.names))))
-                  ∙ ap (λ y. look (reach_form y b in_document at.name.own) at.name.person) (sym no) ∙ at.is_reached;
-              in_full = λ yes. sym at.is_reached ∙ ap (λ y. look (reach_form y b in_document at.name.own) at.name.person) yes;
-              enough = λ yes.
-                  let need = needs-enough yes in
-                  let one = greater-extent in_document (form_needed reaches a i) in
-                  let two = greater-extent (greater in_document (form_needed reaches a i)) (written b at.name.own) in
-                  omega (arith, need, one, two);
-            }
-              where
-                b : DisambiguatedNameForm
-                b = base (own_forms m.names)
-
-                in_document : DisambiguatedNameForm
-                in_document = document_form ms m.rule i at.name
-
-                form : DisambiguatedNameForm
-                form = greater (greater in_document (form_needed reaches a i)) (written b at.name.own)
-
-                least-is : least_form ms m i ≡ greater in_document (form_needed reaches a i)
-                least-is = ap (λ o. greater (unwrap_or (option_map (document_form ms m.rule i) o) DisambiguatedNameForm.Short) (form_needed reaches a i)) at.there
-
-                form-is : slice_get (forms_of m) i ≡ Some form
-                form-is =
-                    form-at (own_forms m.names) (count_of m) (least_form ms m) i at.name.own (own-at m i at.name at.there)
-                    ∙ ap Some (raised-shown b (count_of m) i (least_form ms m i) at.name.own needs-it ∙ ap (λ g. greater g (written b at.name.own)) least-is)
+            made at =
+                let b = base (own_forms m.names) in
+                let in_document = document_form ms m.rule i at.name in
+                let form = greater (greater in_document (form_needed reaches a i)) (written b at.name.own) in
+                let least-is : least_form ms m i ≡ greater in_document (form_needed reaches a i) =
+                ap (λ o. greater (unwrap_or (option_map (document_form ms m.rule i) o) DisambiguatedNameForm.Short) (form_needed reaches a i)) at.there in
+                let form-is : slice_get (forms_of m) i ≡ Some form =
+                form-at (own_forms m.names) (count_of m) (least_form ms m) i at.name.own (own-at m i at.name at.there)
+                ∙ ap Some (raised-shown b (count_of m) i (least_form ms m i) at.name.own needs-it ∙ ap (λ g. greater g (written b at.name.own)) least-is) in
+                record {
+                  person = at.name.person;
+                  form = form;
+                  is_shown = shown-at m.names (forms_of m) i at.name form at.there form-is (λ j g h there. first-shown m j g (omega (arith, h, needs-it)) there);
+                  as_reached = λ uncited.
+                      ap (λ g. look g at.name.person) ((λ t. greater (greater in_document (needs-short uncited t)) (written b at.name.own)) ∙ short-adds-nothing in_document (written b at.name.own) (own-written b at.name.own (base-written (own_forms m.names))))
+                      ∙ ap (λ y. look (reach_form y b in_document at.name.own) at.name.person) (sym uncited) ∙ at.is_reached;
+                  in_full = λ cited. sym at.is_reached ∙ ap (λ y. look (reach_form y b in_document at.name.own) at.name.person) cited;
+                  enough = λ cited.
+                      let need = needs-enough cited in
+                      let one = greater-extent in_document (form_needed reaches a i) in
+                      let two = greater-extent (greater in_document (form_needed reaches a i)) (written b at.name.own) in
+                      omega (arith, need, one, two);
+                }
 
     -- where both go on at the first difference
     go-on : (m x : NamedMention) (i : ℕ) (r s : Look) → AppearsAt m i r s → AppearsAt x i s r → same_look r s ≡ false
@@ -250,19 +238,19 @@ module _ (ms : List NamedMention) where
         same = same_Some (look one.form one.person) (look other.form other.person) (sym one.is_shown ∙ ap (λ l. slice_get l i) e ∙ other.is_shown)
 
         by : (is_by_cite f.rule ≡ true) ⊎ (is_by_cite f.rule ≡ false) → ⊥
-        by (inl yes) =
-            let p = one.in_full yes in
-            let q = other.in_full yes in
+        by (inl cited) =
+            let p = one.in_full cited in
+            let q = other.in_full cited in
             let d : same_look (full_look one.person) (full_look other.person) ≡ false = (λ t. same_look (sym p t) (sym q t)) ∙ apart in
             let needs_p : extent (needed (full_look one.person) (full_look one.person ∷ full_look other.person ∷ [])) ≡ extent (needed r (r ∷ s ∷ [])) =
             (λ t. extent (needed (sym p t) (sym p t ∷ sym q t ∷ []))) in
             let needs_q : extent (needed (full_look other.person) (full_look other.person ∷ full_look one.person ∷ [])) ≡ extent (needed s (s ∷ r ∷ [])) =
             (λ t. extent (needed (sym q t) (sym q t ∷ sym p t ∷ []))) in
-            let enough_p = one.enough yes in
-            let enough_q = other.enough yes in
+            let enough_p = one.enough cited in
+            let enough_q = other.enough cited in
             unlike one.person other.person one.form other.form d (omega (arith, needs_p, enough_p)) (omega (arith, needs_q, enough_q)) same
-        by (inr no) =
-            let alike : r ≡ s = sym (one.as_reached no) ∙ same ∙ other.as_reached no in
+        by (inr uncited) =
+            let alike : r ≡ s = sym (one.as_reached uncited) ∙ same ∙ other.as_reached uncited in
             true≢false (sym (looks_find.self r) ∙ ap (same_look r) alike ∙ apart)
 
     -- where the first one ends there, and the other goes on
@@ -375,22 +363,21 @@ module _ {M : Type 0} (write : M → MentionState → Written) (subjects : List 
   named-at : (k : ℕ) (d : Subject M) → k < length subjects → slice_get (map (named write subjects) subjects) k ≡ Some (named write subjects (get_or subjects k d))
   named-at k d h = slice_get-map (named write subjects) subjects k ∙ ap (option_map (named write subjects)) (slice_get-get_or subjects k d h)
 
+  abbrev ended : Subject M → Subject M × MentionState
+  ended s = (s, settled write subjects s)
+
+  abbrev Tells : Subject M × MentionState → Subject M × MentionState → Type 0
+  Tells p q = NamesCanTell (map (named write subjects) subjects) (named write subjects p.0) (named write subjects q.0)
+      → names_as_shown write subjects p ≢ names_as_shown write subjects q
+
+  pairs-tell : AllPairs Tells (map ended subjects)
+  pairs-tell i j d h l =
+      let long = length-map subjects ended in
+      let in_j : j < length subjects = omega (arith, long, l) in
+      let in_i : i < length subjects = omega (arith, in_j, h) in
+      subst (λ p. Tells p (get_or (map ended subjects) j d)) (sym (get_or-map ended subjects i d.0 d in_i))
+      (subst (Tells (ended (get_or subjects i d.0))) (sym (get_or-map ended subjects j d.0 d in_j))
+      (names-apart (map (named write subjects) subjects) (named write subjects (get_or subjects i d.0)) (named write subjects (get_or subjects j d.0)) i j (named-at i d.0 in_i) (named-at j d.0 in_j)))
+
   pub names-tell : NamesTell write subjects (map (settled write subjects) subjects)
-  names-tell =
-      subst (AllPairs (λ p q. NamesCanTell (map (named write subjects) subjects) (named write subjects p.0) (named write subjects q.0) → names_as_shown write subjects p ≢ names_as_shown write subjects q))
-      (sym (zip-map (settled write subjects) subjects)) pairs
-    where
-      pairs : AllPairs (λ p q. NamesCanTell (map (named write subjects) subjects) (named write subjects p.0) (named write subjects q.0) → names_as_shown write subjects p ≢ names_as_shown write subjects q)
-          (map (λ s. (s, settled write subjects s)) subjects)
-      pairs i j d h l =
-          let long = length-map subjects (λ s. (s, settled write subjects s)) in
-          let in_j : j < length subjects = omega (arith, long, l) in
-          let in_i : i < length subjects = omega (arith, in_j, h) in
-          let at_i = get_or-map (λ s. (s, settled write subjects s)) subjects i d.0 d in_i in
-          let at_j = get_or-map (λ s. (s, settled write subjects s)) subjects j d.0 d in_j in
-          let ns = map (named write subjects) subjects in
-          subst (λ p. NamesCanTell ns (named write subjects p.0) (named write subjects (get_or (map (λ s. (s, settled write subjects s)) subjects) j d).0)
-          → names_as_shown write subjects p ≢ names_as_shown write subjects (get_or (map (λ s. (s, settled write subjects s)) subjects) j d)) (sym at_i)
-          (subst (λ q. NamesCanTell ns (named write subjects (get_or subjects i d.0)) (named write subjects q.0)
-          → names_as_shown write subjects (get_or subjects i d.0, settled write subjects (get_or subjects i d.0)) ≢ names_as_shown write subjects q) (sym at_j)
-          (λ can. names-apart ns (named write subjects (get_or subjects i d.0)) (named write subjects (get_or subjects j d.0)) i j (named-at i d.0 in_i) (named-at j d.0 in_j) can))
+  names-tell = subst (AllPairs Tells) (sym (zip-map (settled write subjects) subjects)) pairs-tell

@@ -1,13 +1,9 @@
 -- Places in lists of names and looks.
 use Rattle.std.proofs.Common.{◌≡◌, ℕ, ◌+◌, ◌-◌, ◌<◌, ◌≤◌, zero, suc, Bool, true, false, cond, not, Some, None, Option, List, [], ◌∷◌, drop, get_or, length, map, take, refl, ap, sym, subst, ◌∙◌, arith, true≢false, length-drop}
-use Rattle.std.specs.Prelude.{All, nat_eq, option_map, slice_get}
+use Rattle.std.specs.Prelude.{All, option_map, slice_get}
 use Rattle.std.specs.List.{enumerate_from, position_or_len}
-use Rattle.std.specs.Option.{option_eq}
 use Rattle.std.proofs.lemmas.List.{get_or-drop}
 use Rattle.std.proofs.lemmas.Option.{get_or_from_slice_get, none-some, same_Some, slice_get-map, slice_get_within}
-use Rattle.csl_values.specs.Forms.{Forms}
-use Rattle.csl_values.specs.declared.names.DisambiguatedNameForm.{DisambiguatedNameForm}
-use Rattle.csl_telling.specs.Forms.{base, raised_form, raised_forms}
 use Rattle.csl_telling.specs.Looks.{same_look}
 use Rattle.csl_telling.specs.Telling.{first_difference, in_one_group}
 use Rattle.csl_telling.specs.declared.look.Look.{Look}

@@ -1,7 +1,5 @@
 -- The tables of all mentions, mention by mention.
 use Rattle.std.proofs.Common.{◌≡◌, List, map, ap, ◌∙◌}
-use Rattle.std.specs.List.{zip}
-use Rattle.csl_mentions.specs.declared.mention.Mention.{Mention}
 use Rattle.csl_mentions.specs.declared.state.MentionState.{MentionState}
 use Rattle.csl_mentions.specs.declared.written.Written.{Written}
 use Rattle.csl_tables.specs.Tables.{mention_in, mentions_in, third_table, with_choice, with_names}

@@ -1,7 +1,7 @@
 -- Only the ambiguous are told apart.
-use Rattle.std.proofs.Common.{◌≡◌, ℕ, ◌+◌, ◌<◌, Bool, true, false, cond, not, ◌&&◌, Some, None, Option, List, [], ◌∷◌, filter, get_or, length, map, max, refl, ap, sym, subst, ◌∙◌, arith, true≢false, ◌⊎◌, inl, inr}
-use Rattle.std.specs.Prelude.{All, nat_lt, option_and_then, option_map, slice_get, unwrap_or}
-use Rattle.std.specs.List.{enumerate_from, list_any, zip}
+use Rattle.std.proofs.Common.{◌≡◌, ℕ, ◌+◌, ◌<◌, true, false, cond, not, Some, None, Option, List, [], ◌∷◌, filter, get_or, map, refl, ap, sym, subst, ◌∙◌, arith, true≢false, ◌⊎◌, inl, inr}
+use Rattle.std.specs.Prelude.{All, option_and_then, option_map, slice_get, unwrap_or}
+use Rattle.std.specs.List.{enumerate_from, list_any, range_with_len, zip}
 use Rattle.std.proofs.lemmas.Bool.{and_cases, and_left, and_right, le-ltb}
 use Rattle.std.proofs.lemmas.List.Elements.{All-filter, All-map}
 use Rattle.std.proofs.lemmas.List.FromFn.{get_or-enumerate_from, length-enumerate_from}
@@ -9,7 +9,6 @@ use Rattle.std.proofs.lemmas.Option.{get_or_from_slice_get, slice_get-map, slice
 use Rattle.csl_values.specs.Forms.{Forms}
 use Rattle.csl_values.specs.Finds.{Finds, lists_find}
 use Rattle.csl_values.specs.declared.names.DisambiguatedNameForm.{DisambiguatedNameForm}
-use Rattle.csl_values.specs.declared.names.NameDisambiguationProperties.{NameDisambiguationProperties}
 use Rattle.csl_style_values.specs.declared.style.DisambiguationRule.{DisambiguationRule}
 use Rattle.csl_telling.specs.ByDocument.{document_form, form_by_rule}
 use Rattle.csl_telling.specs.Forms.{base, greater, greatest_form, raised, raised_form, raised_forms, same_form, same_forms}
@@ -20,7 +19,7 @@ use Rattle.csl_telling.specs.Told.{least_form, told_by_names}
 use Rattle.csl_telling.specs.declared.mention.MentionedName.{MentionedName}
 use Rattle.csl_telling.specs.declared.mention.NamedMention.{NamedMention}
 use Rattle.csl_telling.specs.declared.reach.Reach.{Reach}
-use Rattle.csl_mentions.specs.Groups.{first_with, group_of, has_text, is_ambiguous, is_rival}
+use Rattle.csl_mentions.specs.Groups.{has_text, is_ambiguous, is_rival}
 use Rattle.csl_mentions.specs.Suffixes.{suffix_of, suffixes}
 use Rattle.csl_mentions.specs.declared.mention.Mention.{Mention}
 use Rattle.csl_mentions.specs.declared.state.MentionState.{MentionState}
@@ -28,12 +27,13 @@ use Rattle.csl_mentions.specs.declared.written.Written.{Written}
 use Rattle.csl_tables.specs.Asked.{untold}
 use Rattle.csl_tables.specs.Tables.{first_table, mention_in, mentions_in, named, second_table, with_names}
 use Rattle.csl_tables.specs.declared.subject.Subject.{Subject}
-use Rattle.csl_told_laws.specs.Ambiguous.{IsInNoGroup, OfEntry, OnlyAmbiguous, StaysShort, adds_by_document}
+use Rattle.csl_told_laws.specs.Ambiguous.{IsInNoGroup, OnlyAmbiguous, StaysShort, adds_by_document}
 use Rattle.csl_told_laws.specs.Pairs.{AreMentionsInPairs}
 use Rattle.csl_told_laws.specs.SuffixLaws.{suffix_at}
 use Rattle.csl_told_laws.specs.TellingLaws.{laters_in}
 use Rattle.csl_told_laws.proofs.Classing.{in-none, none-gets}
 use Rattle.csl_told_laws.proofs.Counted.{entry-at, suffix-there, suffix-without}
+use Rattle.csl_told_laws.proofs.Fuller.{some_names}
 use Rattle.csl_told_laws.proofs.Listing.{all-every, all-under, enumerated-at, none-of-some, zip-map}
 use Rattle.csl_told_laws.proofs.Paired.{entries-in-order}
 use Rattle.csl_told_laws.proofs.Settled.{read-by, settled}
@@ -70,7 +70,7 @@ forms-stay b count least none short n (o ∷ os) =
 
 not-raised : (own : Forms) (count : ℕ) (least : ℕ → DisambiguatedNameForm) → count ≡ 0 → ((i : ℕ) → least i ≡ DisambiguatedNameForm.Short) → raised own count least ≡ None
 not-raised own count least none short =
-    ap (λ b. cond b None (Some (record { forms = raised_forms own count least })))
+    ap (λ b. cond b None (some_names (raised_forms own count least)))
     (ap (λ fs. same_forms fs own) (forms-stay (base own) count least none short 0 own) ∙ (lists_find forms_find).self own)
 
 module _ (ms : List NamedMention) (m : NamedMention) where
@@ -165,38 +165,42 @@ module _ {M : Type 0} (write : M → MentionState → Written) (subjects : List 
       (is_ambiguous (mentions_in write subjects (second_table write subjects)) (mention_in write (get_or subjects k d) (with_names write subjects (get_or subjects k d))))
       (apart-in (with_names write subjects) entry h k d l own))
 
+  abbrev last_read : List Mention
+  last_read = mentions_in write subjects (map (settled write subjects) subjects)
+
+  abbrev last_laters : List Mention
+  last_laters = laters_in write subjects (map (settled write subjects) subjects)
+
+  none-later : (m : Mention) → is_ambiguous last_read m ≡ false → is_ambiguous last_laters m ≡ false
+  none-later m e = split (and_cases (has_text m) (list_any (is_rival m) last_read) e)
+    where
+      split : (has_text m ≡ false) ⊎ (list_any (is_rival m) last_read ≡ false) → is_ambiguous last_laters m ≡ false
+      split (inl f) = and_left (has_text m) (list_any (is_rival m) last_laters) f
+      split (inr f) = and_right (has_text m) (list_any (is_rival m) last_laters) (none-of-some (is_rival m) (λ x. not x.is_first) last_read f)
+
+  -- what no mention of an entry reads as, its later one doesn't
+  later-apart : (entry : ℕ) (m : Mention) → IsInNoGroup last_read entry → slice_get last_laters entry ≡ Some m → m.entry ≡ entry → is_ambiguous last_read m ≡ false
+  later-apart entry m h e =
+      let kept : All (λ x. x.entry ≡ entry → is_ambiguous last_read x ≡ false) last_laters =
+      All-filter (λ x. not x.is_first) (λ x. x.entry ≡ entry → is_ambiguous last_read x ≡ false) last_read h in
+      subst (λ (x : Mention). x.entry ≡ entry → is_ambiguous last_read x ≡ false) (get_or_from_slice_get last_laters entry m m e)
+      (kept entry m (slice_get_within last_laters entry m e))
+
   module _ (entries : ℕ) (pairs : AreMentionsInPairs entries subjects) where
-    no-suffix : (entry : ℕ) → IsInNoGroup (mentions_in write subjects (map (settled write subjects) subjects)) entry
-        → suffix_at (suffixes (laters_in write subjects (map (settled write subjects) subjects))) entry ≡ None
-    no-suffix entry h = by (slice_get laters entry) refl
+    one-each : map (λ m. m.entry) last_laters ≡ range_with_len 0 entries
+    one-each = entries-in-order write (settled write subjects) entries subjects pairs
+
+    no-suffix : (entry : ℕ) → IsInNoGroup last_read entry → suffix_at (suffixes last_laters) entry ≡ None
+    no-suffix entry h = by (slice_get last_laters entry) refl
       where
-        mentions : List Mention
-        mentions = mentions_in write subjects (map (settled write subjects) subjects)
-
-        laters : List Mention
-        laters = laters_in write subjects (map (settled write subjects) subjects)
-
-        none-later : (m : Mention) → is_ambiguous mentions m ≡ false → is_ambiguous laters m ≡ false
-        none-later m e = split (and_cases (has_text m) (list_any (is_rival m) mentions) e)
-          where
-            split : (has_text m ≡ false) ⊎ (list_any (is_rival m) mentions ≡ false) → is_ambiguous laters m ≡ false
-            split (inl f) = and_left (has_text m) (list_any (is_rival m) laters) f
-            split (inr f) = and_right (has_text m) (list_any (is_rival m) laters) (none-of-some (is_rival m) (λ x. not x.is_first) mentions f)
-
-        by : (o : Option Mention) → slice_get laters entry ≡ o → suffix_at (suffixes laters) entry ≡ None
+        by : (o : Option Mention) → slice_get last_laters entry ≡ o → suffix_at (suffixes last_laters) entry ≡ None
         by None e =
-            ap (option_and_then (λ s. s)) (slice_get-map (suffix_of laters) (enumerate_from 0 laters) entry ∙ ap (option_map (suffix_of laters)) (past e))
-          where
-            past : slice_get laters entry ≡ None → slice_get (enumerate_from 0 laters) entry ≡ None
-            past e = enumerated-at 0 laters entry ∙ ap (option_map (λ x. (0 + entry, x))) e
+            ap (option_and_then (λ s. s)) (slice_get-map (suffix_of last_laters) (enumerate_from 0 last_laters) entry
+            ∙ ap (option_map (suffix_of last_laters)) (enumerated-at 0 last_laters entry ∙ ap (option_map (λ x. (0 + entry, x))) e))
         by (Some m) e =
-            let own = entry-at laters entries (entries-in-order write (settled write subjects) entries subjects pairs) entry m e in
-            let kept : All (λ x. x.entry ≡ entry → is_ambiguous mentions x ≡ false) laters =
-            All-filter (λ x. not x.is_first) (λ x. x.entry ≡ entry → is_ambiguous mentions x ≡ false) mentions h in
-            let here : is_ambiguous mentions m ≡ false =
-            subst (λ x. x.entry ≡ entry → is_ambiguous mentions x ≡ false) (get_or_from_slice_get laters entry m m e) (kept entry m (slice_get_within laters entry m e)) own in
-            suffix-there laters entries (entries-in-order write (settled write subjects) entries subjects pairs) entry m e
-            ∙ suffix-without laters entry m None (in-none laters m (none-later m here)) (none-gets laters)
+            let here = later-apart entry m h e (entry-at last_laters entries one-each entry m e) in
+            suffix-there last_laters entries one-each entry m e
+            ∙ suffix-without last_laters entry m None (in-none last_laters m (none-later m here)) (none-gets last_laters)
 
     pub only-ambiguous : OnlyAmbiguous write subjects (second_table write subjects) (map (settled write subjects) subjects)
         (suffixes (laters_in write subjects (map (settled write subjects) subjects)))

@@ -1,5 +1,5 @@
 -- Names as they are shown, and that those which can tell mentions apart do.
-use Rattle.std.specs.Prelude.{◌≡◌, ◌≢◌, ℕ, All, AllPairs, Bool, true, List, None, Option, Some, drop, filter_map, if◌then◌else◌, map, unwrap_or, option_map}
+use Rattle.std.specs.Prelude.{◌≡◌, ◌≢◌, All, AllPairs, Bool, true, List, None, Option, Some, drop, filter_map, if◌then◌else◌, map, unwrap_or, option_map}
 use Rattle.std.specs.List.{list_any, zip}
 use Rattle.csl_values.specs.Forms.{Forms}
 use Rattle.csl_values.specs.declared.names.DisambiguatedNameForm.{DisambiguatedNameForm}

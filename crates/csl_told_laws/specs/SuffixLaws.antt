@@ -1,5 +1,5 @@
 -- Year suffixes: whose they are, and that nothing is left by them.
-use Rattle.std.specs.Prelude.{◌≡◌, ◌≢◌, ◌≤◌, ℕ, Bool, true, false, ◌||◌, List, [], None, Option, Some, filter, length, map, option_and_then, slice_get}
+use Rattle.std.specs.Prelude.{◌≡◌, ◌≢◌, ◌≤◌, ℕ, true, false, ◌||◌, List, [], None, Option, Some, filter, length, map, option_and_then, slice_get}
 use Rattle.std.specs.List.{range_with_len, zip}
 use Rattle.csl_telling.specs.Telling.{in_one_group}
 use Rattle.csl_mentions.specs.Groups.{group_of}
