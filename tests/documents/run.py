@@ -22,7 +22,8 @@ A document is NAME.json. NAME.txt is what it must print; where the status isn't 
 printed. What is expected was worked out by hand from the rules, never taken from the program. The folders:
 rows/ whole runs; layouts/ each kind of element; words/ locales, terms, quotes and punctuation; purposes/ what cites are
 written for; keywords/ each name of a variable, term, form and so on; parts/ each kind of object with all its keys;
-disambiguation/, rounds/, grouping/, collapsing/ and bibliography/ how cites and items work together, alone/ citations that
+disambiguation/, rounds/, grouping/, collapsing/ and bibliography/ how cites and items work together, csl/ how they do in the mode
+`csl` (which the program doesn't have yet: HAS_CSL), alone/ citations that
 stand for themselves, equality/ requests that are equal and others (each with a README.md that tells why a document prints what it does); hostile/ depth; refused/ what the program and the schema refuse;
 beyond_schema/ what the program alone refuses.
 The last line is 'N passed, M failed', and the exit status is 1 where a test failed."""
@@ -53,6 +54,8 @@ LINES = {
 ENDINGS = ('.json', '.txt', '.status', '.account', '.alone', '.passes', '.equality', '.context', '.cites')
 SECONDS = 60
 RANDOM_DOCUMENTS = 2000
+# Whether the program has the mode `csl`: its folder, and random documents of it, are left out until then.
+HAS_CSL = False
 # What a fault says of a value, and how deep JSON may nest.
 FOUND = {type(None): 'null', bool: 'a truth value', int: 'a number', float: 'a number', str: 'a text', list: 'a list', dict: 'an object'}
 MOST_LEVELS = 127
@@ -108,7 +111,7 @@ def hold(got, status, text=b''):
 
 
 def folders_of(base):
-    return sorted(it.path for it in os.scandir(base) if it.is_dir())
+    return sorted(it.path for it in os.scandir(base) if it.is_dir() and (HAS_CSL or it.name != 'csl'))
 
 
 def documents(folders=None):
@@ -786,9 +789,9 @@ def sweeps(program, calls, tables, contexts):
     return made + (sweeps_of_contexts(shim, contexts) if contexts else [])
 
 
-def model(program):
-    """The model of tests/model gives what the program gives, on random documents."""
-    words = [sys.executable, 'compare.py', program, '0', str(RANDOM_DOCUMENTS)]
+def model(program, *mode):
+    """The model of tests/model gives what the program gives, on random documents, of this mode where one is named."""
+    words = [sys.executable, 'compare.py', program, '0', str(RANDOM_DOCUMENTS), *mode]
     done = subprocess.run(words, cwd=ROOT + '/tests/model', stdout=subprocess.PIPE, stderr=subprocess.STDOUT)
     if done.returncode:
         raise Failed(shortened(done.stdout, 4000))
@@ -860,6 +863,7 @@ def main():
     validator = validator_of_schema()
     bases = documents()
     tests = [('model: %d random documents' % RANDOM_DOCUMENTS, model, program)]
+    tests += [('model: %d random documents of the mode csl' % RANDOM_DOCUMENTS, model, program, 'csl')] if HAS_CSL else []
     tests += [('process: ' + it.__name__.replace('_', ' '), it, program) for it in reversed(PROCESSES)]
     calls, tables, contexts = (beside(program, it) for it in ('test_calls', 'test_tables', 'test_contexts'))
     try:
