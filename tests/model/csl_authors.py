@@ -11,9 +11,9 @@ def names_in(item):
 
 
 def persons_named(item):
-    """The persons of the first names, those that et al. hides too."""
+    """The persons of the first names, those that et al. hides too, variable by variable."""
     names = first_names(item)
-    return [] if names is None else [person for persons, _ in names.meta[1] for person in persons]
+    return [] if names is None else [persons for persons, _ in names.meta[1]]
 
 
 def count_repeated(texts, before, rule):
