@@ -1,4 +1,5 @@
-"""Repeated authors of a bibliography in the mode `csl`: each item beside the one directly before it, as both were written.
+"""Repeated authors of a bibliography in the mode `csl`: each item beside the one directly before
+it, as both were written.
 """
 from trees import Text, first_names, plain, with_meta
 from writing import NORMAL

@@ -1,5 +1,5 @@
-"""Mentions in the mode `csl`: what is compared of a document. Each cited entry has two, one as its first cite reads, and one
-as a cite that names it again.
+"""Mentions in the mode `csl`: what is compared of a document. Each cited entry has two, one as its
+first cite reads, and one as a cite that names it again.
 """
 from dataclasses import dataclass, field, replace
 from typing import Optional
@@ -10,7 +10,7 @@ from trees import first_names, plain, with_meta
 
 
 def shown_names(tree):
-    """The text of the first names, and the persons of the names in them; none where there are no names."""
+    """The text of the first names, and the persons of the names in them; none without names."""
     names = first_names(tree)
     if names is None:
         return None

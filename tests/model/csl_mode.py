@@ -1,7 +1,8 @@
 """The mode `csl` of a document: works told apart as CSL 1.0.2 does.
 
-`CslMode(document)` takes a `Document` of the model and gives the parts of its answer, and its account. Three tables stand
-one after another: nothing; names; the condition; then suffixes are given, and nothing is compared any more.
+`CslMode(document)` takes a `Document` of the model and gives the parts of its answer, and its
+account. Three tables stand one after another: nothing; names; the condition. Then suffixes are
+given, and nothing is compared any more.
 """
 from collections import Counter
 from dataclasses import dataclass
@@ -18,6 +19,7 @@ from states import Means
 from trees import has_content, simplified
 
 NEAR_NOTE_DISTANCE = 5
+REPEATED_TOGETHER = 'complete-all'
 FORM_WORDS = ('counted', 'family', 'initials', 'given')
 
 
@@ -111,7 +113,8 @@ class CslMode:
 
     def write(self, mention):
         """Writes a mention in its state."""
-        renderer = self.document.renderer(mention.style, mention.locale, mention.entry, mention.told(), Counter())
+        renderer = self.document.renderer(mention.style, mention.locale, mention.entry,
+                                          mention.told(), Counter())
         mention.show(renderer.cite(None))
         self.renders += 1
         return renderer.picker
@@ -135,7 +138,8 @@ class CslMode:
 
     def tell_by_condition(self):
         """All that test it, of those that still read alike."""
-        changed = [mention for group in groups_of(self.mentions) for mention in group if mention.tested]
+        alike = [mention for group in groups_of(self.mentions) for mention in group]
+        changed = [mention for mention in alike if mention.tested]
         for mention in changed:
             mention.chosen = True
         self.round('the condition', changed)
@@ -156,12 +160,15 @@ class CslMode:
 
     def place_cites(self):
         """The requests' cites in their final order, with all that the last writing is told."""
-        firsts, laters = ({mention.key: mention for mention in row} for row in (self.firsts, self.laters))
+        firsts = {mention.key: mention for mention in self.firsts}
+        laters = {mention.key: mention for mention in self.laters}
         for row in self.rows:
             for cite in row:
                 cite.mention = (firsts if cite.is_first else laters)[cite.key]
-                cite.suffix, cite.suffix_class = (found.get(cite.key) for found in (self.suffixes, self.suffix_classes))
-        self.rows = [in_blocks(row, self.events) if row and has_blocks(row[0].citation) else row for row in self.rows]
+                cite.suffix = self.suffixes.get(cite.key)
+                cite.suffix_class = self.suffix_classes.get(cite.key)
+        self.rows = [in_blocks(row, self.events) if row and has_blocks(row[0].citation) else row
+                     for row in self.rows]
         settle_repeats(self.rows)
         flat = [cite for row in self.rows for cite in row]
         if not self.is_ordered:
@@ -177,8 +184,9 @@ class CslMode:
         request = self.requests[cite.request]
         mention = cite.mention
         means = Means(mention.names, mention.chosen, cite.suffix)
-        properties = Properties(cite.number, cite.item.get('locator'), cite.first_note, cite.is_near, cite.is_first,
-                                cite.position, usage=mention.properties.usage, means=means)
+        properties = Properties(
+            cite.number, cite.item.get('locator'), cite.first_note, cite.is_near, cite.is_first,
+            cite.position, usage=mention.properties.usage, means=means)
         style, entry = self.document.styles[request['style']], self.document.entries[cite.key]
         renderer = self.document.renderer(style, request.get('locale'), entry, properties)
         self.renders += 1
@@ -189,23 +197,25 @@ class CslMode:
     def citation(self, request, row):
         """The cites that are shown: not hidden, nor inside a range, nor without content."""
         written = [(cite, self.last_tree(cite)) for cite in row]
-        shown = [(cite, tree) for cite, tree in written if not (cite.is_hidden or cite.collapsed)]
-        self.events['cite without content'] += not all(any(map(has_content, tree)) for _, tree in shown)
-        return self.document.assembled(request, [(cite, tree) for cite, tree in shown if any(map(has_content, tree))])
+        wanted = [(cite, tree) for cite, tree in written if not (cite.is_hidden or cite.collapsed)]
+        shown = [(cite, tree) for cite, tree in wanted if any(map(has_content, tree))]
+        self.events['cites without content'] += len(wanted) - len(shown)
+        return self.document.assembled(request, shown)
 
     # The bibliography
 
     def item(self, key):
-        """With the number and the first note of the first cite of its entry in the final order; no test of a position
-        holds in it, and no names are added."""
+        """With the number and the first note of the first cite of its entry in the final order; no
+        test of a position holds in it, and no names are added."""
         cite = next(cite for row in self.rows for cite in row if cite.key == key)
         later = self.laters[self.listed.index(key)]
         means = Means(None, later.chosen, self.suffixes.get(key))
         properties = Properties(cite.number, None, cite.first_note, False, None,
                                 usage=cite.mention.properties.usage, means=means)
         locale, entry = self.document.wanted.get('locale'), self.document.entries[key]
+        renderer = self.document.renderer(self.bibliography_style, locale, entry, properties)
         self.renders += 1
-        return self.document.renderer(self.bibliography_style, locale, entry, properties).bibliography_item()
+        return renderer.bibliography_item()
 
     def items(self):
         """Of each listed entry its key, the first field if any, and the rest."""
@@ -213,8 +223,10 @@ class CslMode:
             return None
         layout = self.bibliography_style['bibliography']
         items = [simplified(self.item(key)) for key in self.listed]
-        if 'substitute' in layout:
-            substitute_repeated(items, layout['substitute'], layout.get('substitute_rule', 'complete-all'), self.events)
+        substitute = layout.get('substitute')
+        if substitute is not None:
+            rule = layout.get('substitute_rule', REPEATED_TOGETHER)
+            substitute_repeated(items, substitute, rule, self.events)
         fields = [first_field(item) if 'second_field_align' in layout else None for item in items]
         return list(zip(self.listed, fields, items))
 
@@ -228,11 +240,12 @@ class CslMode:
         return citations, self.items()
 
     def account(self):
-        """Of the parts that were given: how much was written, how many rounds told something, and by what each entry is
-        told."""
+        """Of the parts that were given: how much was written, how many rounds told something, and
+        by what each entry is told."""
         entries = [{'key': first.key, 'number': self.numbers[first.key],
                     'first': (first.names, first.chosen), 'later': (later.names, later.chosen),
-                    'suffix': self.suffixes.get(first.key)} for first, later in zip(self.firsts, self.laters)]
+                    'suffix': self.suffixes.get(first.key)}
+                   for first, later in zip(self.firsts, self.laters)]
         return {'renders': self.renders, 'rounds': self.rounds, 'entries': entries}
 
 
@@ -242,10 +255,11 @@ def state_text(names, chosen):
 
 
 def account_text(account):
-    """An account in words: a line for what was written and for the rounds, and one for each entry."""
+    """An account in words: a line for what was written and the rounds, and one for each entry."""
     lines = ['renders %d, rounds %d' % (account['renders'], account['rounds'])]
     for entry in account['entries']:
         suffix = '' if entry['suffix'] is None else ', suffix %d' % entry['suffix']
-        states = state_text(*entry['first']), state_text(*entry['later'])
-        lines.append('%s: %d, first %s, later %s%s' % (entry['key'], entry['number'], *states, suffix))
+        said = (entry['key'], entry['number'], state_text(*entry['first']),
+                state_text(*entry['later']), suffix)
+        lines.append('%s: %d, first %s, later %s%s' % said)
     return ''.join(line + '\n' for line in lines)

@@ -1,12 +1,14 @@
-"""Names that tell works apart in the mode `csl`: what a form shows of a person, what the other persons of a document ask
-for, and what two mentions that read alike ask of each other.
+"""Names that tell works apart in the mode `csl`: what a form shows of a person, what the other
+persons of a document ask for, and what two mentions that read alike ask of each other.
 """
 from itertools import zip_longest
 
 from pieces import initials
 from states import COUNT, FULL, INITIALS, SHORT
 
-ADDED_BY_DOCUMENT = ('all-names', 'all-names-with-initials', 'primary-name', 'primary-name-with-initials')
+OF_ALL_NAMES = ('all-names', 'all-names-with-initials')
+OF_PRIMARY_NAMES = ('primary-name', 'primary-name-with-initials')
+WITH_INITIALS = ('all-names-with-initials', 'primary-name-with-initials')
 
 
 # A person
@@ -28,10 +30,12 @@ def look(person, form):
 
 def needed(person, others):
     """The least form in which a person looks unlike all who don't look alike in full."""
-    rivals = [other for other in others if other[0] == person[0] and look(other, FULL) != look(person, FULL)]
+    rivals = [other for other in others
+              if other[0] == person[0] and look(other, FULL) != look(person, FULL)]
     if given_name(person) is None or not rivals:
         return SHORT
-    return FULL if look(person, INITIALS) in [look(rival, INITIALS) for rival in rivals] else INITIALS
+    is_shared = look(person, INITIALS) in [look(rival, INITIALS) for rival in rivals]
+    return FULL if is_shared else INITIALS
 
 
 # A mention, with its persons and its own forms
@@ -48,8 +52,8 @@ def count_shown(mention):
 
 
 def raised_names(mention, count, least):
-    """The own forms where so many names are shown, each that is written in its least form; none where these are the
-    own forms."""
+    """The own forms where so many names are shown, each that is written in its least form; none
+    where these are the own forms."""
     forms = []
     for place, own in enumerate(mention.own):
         if own == COUNT and place >= count:
@@ -68,15 +72,17 @@ def rule_of(citation):
 
 
 def forms_by_document(mention, mentions):
-    """The least form of each name of a mention, where its style expands names in all cites of the document."""
+    """The least form of each name of a mention, where its style expands names in all cites of the
+    document."""
     rule = rule_of(mention.citation)
     least = [SHORT] * len(mention.persons)
-    if rule in ('all-names', 'all-names-with-initials'):
+    if rule in OF_ALL_NAMES:
         everyone = [person for other in mentions for person in other.persons]
         least = [needed(person, everyone) for person in mention.persons]
-    elif rule in ADDED_BY_DOCUMENT and mention.persons:
-        least[0] = needed(mention.persons[0], [other.persons[0] for other in mentions if other.persons])
-    if rule in ('all-names-with-initials', 'primary-name-with-initials'):
+    if rule in OF_PRIMARY_NAMES and mention.persons:
+        everyone = [other.persons[0] for other in mentions if other.persons]
+        least[0] = needed(mention.persons[0], everyone)
+    if rule in WITH_INITIALS:
         least = [SHORT if form == FULL else form for form in least]
     return least
 
@@ -85,8 +91,8 @@ def forms_by_document(mention, mentions):
 
 
 def reach(mention, by_document, citation):
-    """The looks of the names that can be shown, each in the greatest form that it may get, where this citation says what
-    the group of the mention may do."""
+    """The looks of the names that can be shown, each in the greatest form that it may get, where
+    this citation says what the group of the mention may do."""
     count = len(mention.persons) if citation.get('add_names') else count_shown(mention)
     by_cite = rule_of(citation) == 'by-cite'
     answer = []
@@ -97,12 +103,13 @@ def reach(mention, by_document, citation):
 
 
 def first_difference(one, other):
-    """The first place at which two lists differ, at which one of them may have ended; none where they are equal."""
+    """The first place at which two lists differ, at which one of them may have ended; none where
+    they are equal."""
     return next((place for place, (a, b) in enumerate(zip_longest(one, other)) if a != b), None)
 
 
 def needs_against(mention, other, reaches, by_cite):
-    """How many names a mention needs against another, and the form that the last of them needs, if any."""
+    """How many names a mention needs against another, and the form that the last one needs."""
     mine, others = reaches[mention], reaches[other]
     place = first_difference(mine, others)
     if place is None:
@@ -114,7 +121,8 @@ def needs_against(mention, other, reaches, by_cite):
 
 
 def told_by_names(mentions, groups):
-    """Of each mention the forms of its names that tell it from others, or none where these are its own."""
+    """Of each mention the forms of its names that tell it from others, or none where these are its
+    own."""
     count = {mention: 0 for mention in mentions}
     least = {mention: forms_by_document(mention, mentions) for mention in mentions}
     by_document = {mention: tuple(forms) for mention, forms in least.items()}

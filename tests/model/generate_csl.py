@@ -1,16 +1,19 @@
-"""Random documents of the mode `csl`: those of `generate_cites`, of each of its kinds, with more ways to tell works apart,
-cites that read otherwise where they come again, and words of a caller's around cites.
+"""Random documents of the mode `csl`: those of `generate_cites`, of each of its kinds, with more
+ways to tell works apart, cites that read otherwise where they come again, and words of a caller's
+around cites.
 """
 import copy
 import random
 
-from generate_cites import (COLLAPSES, FAMILIES, GIVEN, RULES, TITLES, YEARS, CiteGenerator, group, number, text,
-                            variable)
+from generate_cites import (COLLAPSES, FAMILIES, GIVEN, RULES, TITLES, YEARS, CiteGenerator, group,
+                            number, text, variable)
 
-KINDS = ('ambiguous', 'ambiguous', 'ambiguous', 'grouped', 'grouped', 'numeric', 'notes', 'notes', 'bibliography')
+KINDS = ('ambiguous', 'ambiguous', 'ambiguous', 'grouped', 'grouped', 'numeric', 'notes', 'notes',
+         'bibliography')
 # What the styles of a document do for the most part.
-HABITS = ('all', 'all', 'names', 'given names', 'names and given names', 'suffixes', 'runs of suffixes', 'condition',
-          'names and suffixes')
+HABITS = ('all', 'all', 'names', 'given names', 'names and given names', 'suffixes',
+          'runs of suffixes', 'condition', 'names and suffixes')
+WAYS = {'add_names': 'names', 'add_givenname': 'given', 'add_year_suffix': 'suffixes'}
 
 
 class CslGenerator(CiteGenerator):
@@ -46,7 +49,7 @@ class CslGenerator(CiteGenerator):
 
     def ways(self, c):
         likely = {'all': 0.7}.get(self.habit, 0.1)
-        for key, word in (('add_names', 'names'), ('add_givenname', 'given'), ('add_year_suffix', 'suffixes')):
+        for key, word in WAYS.items():
             if self.chance(0.9 if word in self.habit.split() else likely):
                 c[key] = True
         if self.chance(0.75):
@@ -66,17 +69,19 @@ class CslGenerator(CiteGenerator):
             e['variables'] = ['author']
             e['options'] = {'name_form': form, 'et_al_min': self.pick([least, least, 3])}
             e['options'].update({'initialize_with': '.'} if self.chance(0.3) else {})
-        said = {'names': [first, self.date()], 'short': [later] + ([self.date()] if self.chance(0.6) else [])}
-        if self.chance(0.3):
-            said['names'].append(variable('title', prefix=', '))
-        if self.chance(0.2):
-            said['short'].append(variable('title', prefix=', '))
-        branches = [{'if': ['first'], 'children': said['names']}]
+        whole = [first, self.date()]
+        short = [later] + ([self.date()] if self.chance(0.6) else [])
+        for said, p in ((whole, 0.3), (short, 0.2)):
+            if self.chance(p):
+                said.append(variable('title', prefix=', '))
+        branches = [{'if': ['first'], 'children': whole}]
         if self.chance(0.4):
-            branches.insert(0, {'if': [self.pick(['ibid', 'ibid-with-locator'])], 'children': [text('Ibid.')]})
+            position = self.pick(['ibid', 'ibid-with-locator'])
+            branches.insert(0, {'if': [position], 'children': [text('Ibid.')]})
         if self.chance(0.3):
-            branches.insert(0, {'if': [self.pick(['near-note', 'subsequent']), 'near-note'], 'children': said['short'][:1]})
-        parts = [{'kind': 'choose', 'branches': branches, 'else': said['short']}]
+            positions = [self.pick(['near-note', 'subsequent']), 'near-note']
+            branches.insert(0, {'if': positions, 'children': short[:1]})
+        parts = [{'kind': 'choose', 'branches': branches, 'else': short}]
         parts += [number('locator', prefix=', ')] if self.chance(0.4) else []
         return [group(parts)] if self.chance(0.5) else parts
 
@@ -98,7 +103,8 @@ class CslGenerator(CiteGenerator):
             for request in d['requests']:
                 request['style'] = self.pick(list(d['styles']))
         if self.chance(0.2):
-            d['bibliography']['order'] = self.r.sample([e['key'] for e in d['entries']], len(d['entries']))
+            keys = [e['key'] for e in d['entries']]
+            d['bibliography']['order'] = self.r.sample(keys, len(keys))
         d['rounds'] = 'csl'
         return d
 
