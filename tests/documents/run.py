@@ -186,9 +186,10 @@ def beside(program, name):
     return found if os.access(found, os.X_OK) else None
 
 
-def is_full(base):
-    """Whether a document asks for rounds until none marks."""
-    return json.loads(read(base + '.json')).get('rounds') == 'full'
+def call_of(base):
+    """The call of a driver that a document asks for."""
+    calls = {'full': 'finish_full', 'csl': 'finish_csl'}
+    return calls.get(json.loads(read(base + '.json')).get('rounds'), 'finish')
 
 
 def by_calls(calls, way, base, status, text):
@@ -207,7 +208,7 @@ def tests_of_calls(calls, bases):
         status, text = wanted(base)
         if status == 2:
             continue
-        call = 'finish_full' if is_full(base) else 'finish'
+        call = call_of(base)
         made.append(('%s: %s' % (call, name_of(base)), by_calls, calls, call, base, status, text))
         if os.path.isfile(base + '.account'):
             made.append(('account: ' + name_of(base), by_calls, calls, 'account', base, status, read(base + '.account')))
