@@ -74,9 +74,9 @@ module _ {E P : Type 0} where
       at (suc k) low is = absurd (omega (arith, low))
 
   only-drawn : (i : ItemRender E P) (drawn : List (ItemRender E P)) → map uncollapsed drawn ≡ uncollapsed i ∷ [] → (j : ItemRender E P) × (drawn ≡ j ∷ []) × (uncollapsed j ≡ uncollapsed i)
-  only-drawn i [] same = cc
-  only-drawn i (j ∷ k ∷ drawn) same = cc
-  only-drawn i (j ∷ []) same = let first : uncollapsed j ≡ uncollapsed i = cc in (j, refl, first)
+  only-drawn i [] same = absurd (omega (arith, ap length same))
+  only-drawn i (j ∷ k ∷ drawn) same = absurd (omega (arith, ap length same))
+  only-drawn i (j ∷ []) same = (j, refl, ap (λ cites. get_or cites 0 (uncollapsed i)) same)
 
   pub only : (q : RequestedCite E P) (c d : CiteRender E P) → HasOwnCites c → IsReadBack c d → (with_places c.request).cites ≡ record q { place = 0 } ∷ [] → IsOnly q d.items
   only q c d own read one =
