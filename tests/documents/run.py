@@ -23,7 +23,8 @@ A document is NAME.json. NAME.txt is what it must print; where the status isn't 
 printed. What is expected was worked out by hand from the rules, never taken from the program. The folders:
 rows/ whole runs; layouts/ each kind of element; words/ locales, terms, quotes and punctuation; purposes/ what cites are
 written for; keywords/ each name of a variable, term, form and so on; parts/ each kind of object with all its keys;
-disambiguation/, rounds/, grouping/, collapsing/ and bibliography/ how cites and items work together, alone/ citations that
+disambiguation/, rounds/, grouping/, collapsing/ and bibliography/ how cites and items work together, csl/ how they do in the mode
+`csl` (which the program doesn't have yet: HAS_CSL), alone/ citations that
 stand for themselves, equality/ requests that are equal and others (each with a README.md that tells why a document prints what it does); hostile/ depth; refused/ what the program and the schema refuse;
 beyond_schema/ what the program alone refuses.
 The last line is 'N passed, M failed', and the exit status is 1 where a test failed."""
@@ -54,6 +55,8 @@ LINES = {
 ENDINGS = ('.json', '.txt', '.status', '.account', '.alone', '.passes', '.equality', '.context', '.cites')
 SECONDS = 60
 RANDOM_DOCUMENTS = 2000
+# Whether the program has the mode `csl`: its folder, and random documents of it, are left out until then.
+HAS_CSL = False
 # What a fault says of a value, and how deep JSON may nest.
 FOUND = {type(None): 'null', bool: 'a truth value', int: 'a number', float: 'a number', str: 'a text', list: 'a list', dict: 'an object'}
 MOST_LEVELS = 127
@@ -109,7 +112,7 @@ def hold(got, status, text=b''):
 
 
 def folders_of(base):
-    return sorted(it.path for it in os.scandir(base) if it.is_dir())
+    return sorted(it.path for it in os.scandir(base) if it.is_dir() and (HAS_CSL or it.name != 'csl'))
 
 
 def documents(folders=None):
@@ -184,9 +187,10 @@ def beside(program, name):
     return found if os.access(found, os.X_OK) else None
 
 
-def is_full(base):
-    """Whether a document asks for rounds until none marks."""
-    return json.loads(read(base + '.json')).get('rounds') == 'full'
+def call_of(base):
+    """The call of a driver that a document asks for."""
+    calls = {'full': 'finish_full', 'csl': 'finish_csl'}
+    return calls.get(json.loads(read(base + '.json')).get('rounds'), 'finish')
 
 
 def by_calls(calls, way, base, status, text):
@@ -205,7 +209,7 @@ def tests_of_calls(calls, bases):
         status, text = wanted(base)
         if status == 2:
             continue
-        call = 'finish_full' if is_full(base) else 'finish'
+        call = call_of(base)
         made.append(('%s: %s' % (call, name_of(base)), by_calls, calls, call, base, status, text))
         if os.path.isfile(base + '.account'):
             made.append(('account: ' + name_of(base), by_calls, calls, 'account', base, status, read(base + '.account')))
@@ -819,9 +823,9 @@ def sweeps(program, calls, tables, contexts):
     return made + (sweeps_of_contexts(shim, contexts) if contexts else [])
 
 
-def model(program):
-    """The model of tests/model gives what the program gives, on random documents."""
-    words = [sys.executable, 'compare.py', program, '0', str(RANDOM_DOCUMENTS)]
+def model(program, *mode):
+    """The model of tests/model gives what the program gives, on random documents, of this mode where one is named."""
+    words = [sys.executable, 'compare.py', program, '0', str(RANDOM_DOCUMENTS), *mode]
     done = subprocess.run(words, cwd=ROOT + '/tests/model', stdout=subprocess.PIPE, stderr=subprocess.STDOUT)
     if done.returncode:
         raise Failed(shortened(done.stdout, 4000))
@@ -893,6 +897,7 @@ def main():
     validator = validator_of_schema()
     bases = documents()
     tests = [('model: %d random documents' % RANDOM_DOCUMENTS, model, program)]
+    tests += [('model: %d random documents of the mode csl' % RANDOM_DOCUMENTS, model, program, 'csl')] if HAS_CSL else []
     tests += [('process: ' + it.__name__.replace('_', ' '), it, program) for it in reversed(PROCESSES)]
     calls, tables, contexts, rows = (beside(program, it) for it in ('test_calls', 'test_tables', 'test_contexts', 'test_rows'))
     try:
