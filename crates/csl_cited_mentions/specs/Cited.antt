@@ -1,5 +1,5 @@
 -- Mentions as cites that a writer is asked for.
-use Rattle.std.specs.Prelude.{ℕ, None, if◌then◌else◌}
+use Rattle.std.specs.Prelude.{◌≡◌, ℕ, None, if◌then◌else◌}
 use Rattle.csl_lookup.specs.Properties.{Properties}
 use Rattle.csl_lookup.specs.PropertiesView.{properties_view}
 use Rattle.csl_lookup.specs.SourceView.{source_view}
@@ -32,6 +32,13 @@ module _ {E P : Type 0} where
   -- where nothing tells it apart
   abbrev pub first_task : CiteMention E P → CiteTaskValue E P
   first_task m = with_properties m (properties_view m.properties.now)
+
+-- a writer writes and notes as another one, whatever was noted before
+pub record WritesOn {E P N : Type 0} (w v : WriterState E P N) : Type 0 where
+  pub cite : v.cite ≡ w.cite
+  pub item : v.item ≡ w.item
+  pub date : v.date ≡ w.date
+  pub noting : v.noting ≡ w.noting
 
 module _ {E P : Type 0} (cite : CiteTaskValue E P → Cite) where
   -- a cite that is written in a state: where that tells it apart, with the usage that it noted

@@ -55,7 +55,8 @@ fn written_by<T: EntryLike, P, W: CiteWriter<T, P>>(
 
 impl<'t, 'p, T: EntryLike, P: Drop, W: CiteWriter<T, P>> WrittenBy<W, Renders>
     for CiteMention<'t, 'p, T, P> {
-    ghost use Rattle.csl_cited_mentions.specs.Cited.{cited};
+    ghost use Rattle.csl_cited_mentions.specs.Cited.{WritesOn, cited};
+    ghost use Rattle.csl_cited_mentions.proofs.WritingOn.{writes-on-further, writes-on-itself};
 
     type Error = W::Error;
 
@@ -64,6 +65,12 @@ impl<'t, 'p, T: EntryLike, P: Drop, W: CiteWriter<T, P>> WrittenBy<W, Renders>
     type Notes = Noted<W::Note>;
 
     ghost writing = { λ w n. cited (W.state w) n };
+
+    ghost goes_on = { λ w v. WritesOn (W.state w) (W.state v) };
+
+    ghost stays = { λ w. writes-on-itself (W.state w) };
+
+    ghost follows = { λ u v w first second. writes-on-further first second };
 
     fn write_first(
         &self,

@@ -48,14 +48,14 @@ module _ {E P : Type 0} (eq : E → E → Bool) (entries : List E) (cites : List
         by None h = cc
         by (Some e) h = ap (λ x. unwrap_or x (option_map (item_at cites) o)) h
 
-    none-first : None ≡ get_or firsts p None → first_of p ≡ None
+    pub none-first : None ≡ get_or firsts p None → first_of p ≡ None
     none-first here = by (first_of p) (noted None here)
       where
         by : (o : Option (ItemRender E P)) → None ≡ option_map Some o → o ≡ None
         by None h = refl
         by (Some i) h = cc
 
-    some-first : (at : Place) → Some at ≡ get_or firsts p (Some at) → (i : ItemRender E P) × (item_at cites at ≡ Some i) × (first_of p ≡ Some i)
+    pub some-first : (at : Place) → Some at ≡ get_or firsts p (Some at) → (i : ItemRender E P) × (item_at cites at ≡ Some i) × (first_of p ≡ Some i)
     some-first at here = by (first_of p) (noted (Some at) here)
       where
         by : (o : Option (ItemRender E P)) → Some (item_at cites at) ≡ option_map Some o → (i : ItemRender E P) × (item_at cites at ≡ Some i) × (o ≡ Some i)

@@ -21,3 +21,7 @@ pub mod Promises
 pub mod TaskCounts
 pub mod ByIndex
 pub mod Steps
+pub mod CslMentions
+pub mod CslLocated
+pub mod CslStanding
+pub mod CslAccounting

@@ -14,3 +14,8 @@ pub mod JobView
 pub mod DraftView
 pub mod WriterTasks
 pub mod OwnError
+pub mod CslAnswer
+pub mod CslAccount
+pub mod CslTasks
+pub mod CslPromised
+pub mod CslParts

@@ -19,10 +19,15 @@ pub use csl_writing::{
 pub mod account;
 mod bibliography;
 mod cited;
+mod csl;
+pub mod csl_account;
+mod csl_bibliography;
+mod csl_cites;
 mod draft;
 pub mod driver;
 pub mod error;
 mod finish;
+mod finish_csl;
 pub mod laws;
 pub mod passes;
 mod rings;

@@ -47,6 +47,7 @@ pub(crate) fn write_changed<W, C, M: WrittenBy<W, C>>(
     ensures asked { OnOk result (M.writing writer.new counter.new
         ≡ asked_for (flat_map (tasks_of changed) (zip subjects.now states.now))
         (M.writing writer.old counter.old)) }
+    ensures goes_on { OnOk result (M.goes_on writer.old writer.new) }
 {
     for k in 0..subjects.len() {
         write_if_changed(
@@ -86,6 +87,7 @@ fn write_if_changed<W, C, M: WrittenBy<W, C>>(
     ensures asked { OnOk result (M.writing writer.new counter.new
         ≡ asked_for (tasks_of changed (subject.now, state.now))
         (M.writing writer.old counter.old)) }
+    ensures goes_on { OnOk result (M.goes_on writer.old writer.new) }
 {
     if !is_changed(changed, state) {
         return Ok(());

@@ -36,6 +36,7 @@ pub(crate) fn write_firsts<W, C, M: WrittenBy<W, C>>(
     ensures firsts { IfOk result (AreFirsts (M.writing writer.old counter.old) subjects.now) }
     ensures asked { OnOk result (M.writing writer.new counter.new
         ≡ asked_for (first_tasks subjects.now) (M.writing writer.old counter.old)) }
+    ensures goes_on { OnOk result (M.goes_on writer.old writer.new) }
 {
     let mut firsts = Firsts {
         mentions: Vec::new(alloc),

@@ -76,6 +76,7 @@ pub fn tell_apart<W, C, M: WrittenBy<W, C>>(
     ensures asked { OnOk result (M.writing writer.new counter.new
         ≡ asked_for (all_tasks (reading (M.writing writer.old counter.old)) subjects.now)
         (M.writing writer.old counter.old)) }
+    ensures goes_on { OnOk result (M.goes_on writer.old writer.new) }
 {
     let mut named = tell_by_names(alloc, subjects, writer, counter)?;
     choose(alloc, &named.mentions, &named.tested, &mut named.states)?;
@@ -129,6 +130,7 @@ fn tell_by_names<W, C, M: WrittenBy<W, C>>(
         ≡ asked_for (first_tasks subjects.now ++ tasks_where subjects.now (λ s. is_some s.names)
         (second_table (reading (M.writing writer.old counter.old)) subjects.now))
         (M.writing writer.old counter.old)) }
+    ensures goes_on { OnOk result (M.goes_on writer.old writer.new) }
 {
     let firsts = write_firsts(alloc, subjects, writer, counter)?;
     let Firsts {

@@ -31,6 +31,14 @@ pub trait WrittenBy<W, C> {
     /// What is written of such mentions, and what was noted.
     ghost writing: { W → C → MentionsWriter Self Self.Kept Self.Notes };
 
+    /// A writer goes on from another one: but for what was noted, nothing that is known of it has
+    /// changed, also of what it writes beside such mentions.
+    ghost goes_on: { W → W → Type 0 };
+
+    ghost stays: { (w : W) → goes_on w w };
+
+    ghost follows: { (u : W) (v : W) (w : W) → goes_on u v → goes_on v w → goes_on u w };
+
     /// Writes the mention where nothing tells it apart.
     ///
     /// # Errors
@@ -45,7 +53,8 @@ pub trait WrittenBy<W, C> {
         ensures written { IfOk result
             (λ w. w ≡ (writing writer.old counter.old).write self.now untold) }
         ensures asked { OnOk result (writing writer.new counter.new
-            ≡ asked_for ((self.now, untold) ∷ []) (writing writer.old counter.old)) };
+            ≡ asked_for ((self.now, untold) ∷ []) (writing writer.old counter.old)) }
+        ensures goes_on { OnOk result (goes_on writer.old writer.new) };
 
     /// Writes the mention again, where this tells it apart. `first` is what was kept of it where
     /// nothing did.
@@ -65,5 +74,6 @@ pub trait WrittenBy<W, C> {
             → IfOk result (λ w. w ≡ (writing writer.old counter.old).write self.now told.now) }
         ensures asked { first.now ≡ first_kept (writing writer.old counter.old) self.now
             → OnOk result (writing writer.new counter.new
-            ≡ asked_for ((self.now, told.now) ∷ []) (writing writer.old counter.old)) };
+            ≡ asked_for ((self.now, told.now) ∷ []) (writing writer.old counter.old)) }
+        ensures goes_on { OnOk result (goes_on writer.old writer.new) };
 }

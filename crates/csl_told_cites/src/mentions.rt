@@ -188,7 +188,7 @@ fn mention_index(entry: usize, is_first: bool) -> usize
 
 /// What a list by mentions has for the first mention of the entry at an index, or for its later
 /// one.
-pub(crate) fn by_mention<X>(all: &[X], entry: usize, is_first: bool) -> Option<&X>
+pub fn by_mention<X>(all: &[X], entry: usize, is_first: bool) -> Option<&X>
     ensures { option_map (λ x. x.now) result ≡ slice_get all.now (mention_index entry is_first) }
 {
     if entry > all.len() / 2 {

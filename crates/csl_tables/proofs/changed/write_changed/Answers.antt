@@ -14,6 +14,7 @@ loop-k-init g c = record {
   again = changed-none (rewritten (reading (g.M.WrittenBy.writing c.args.writer.now c.args.counter.now)) c.args.changed) (zip c.args.subjects.now c.args.states.now) c.args.mentions.now;
   kept = changed-none (rekept (keeping (g.M.WrittenBy.writing c.args.writer.now c.args.counter.now)) c.args.changed) (zip c.args.subjects.now c.args.states.now) c.args.again.now;
   asked = refl;
+  goes_on = g.M.WrittenBy.stays c.args.writer.now;
 }
 
 pub write_if_changed-requires : goal.write_if_changed-requires
@@ -56,6 +57,7 @@ loop-k-preserved g c =
       again = changed-more (rewritten (reading w0) c.args.changed) k pairs c.args.mentions.now c.loop-k.mentions (s, t) (s, t) m c.write_if_changed.new.mention c.loop-k.invariant.again within (omega arith) here
           (c.in_ok-write_if_changed.ensures.again ∙ ap (λ w. rewritten w c.args.changed (s, t) (get_or c.loop-k.mentions k m)) same);
       asked = asked-some pairs k (s, t) within here w0 w1 w2 (tasks_of c.args.changed) c.loop-k.invariant.asked c.in_ok-write_if_changed.ensures.asked;
+      goes_on = g.M.WrittenBy.follows c.args.writer.now c.loop-k.writer c.write_if_changed.new.writer c.loop-k.invariant.goes_on c.in_ok-write_if_changed.ensures.goes_on;
     }
 
 pub returns : goal.returns
@@ -68,4 +70,5 @@ returns g c =
       again = changed-all (rewritten (reading w0) c.args.changed) c.loop-k.k pairs c.args.mentions.now c.loop-k.mentions c.loop-k.invariant.again past;
       kept = changed-all (rekept (keeping w0) c.args.changed) c.loop-k.k pairs c.args.again.now c.loop-k.again c.loop-k.invariant.kept past;
       asked = c.loop-k.invariant.asked ∙ ap (λ ps. asked_for (flat_map (tasks_of c.args.changed) ps) w0) (take_all c.loop-k.k pairs past);
+      goes_on = c.loop-k.invariant.goes_on;
     }

@@ -34,6 +34,7 @@ loop-subject-preserved g c =
         again = pushed-next subjects k s within here (λ s. None) old.again.items new.again.items None so_far.again added.again refl;
       };
       asked = asked-next subjects k s within here w0 w1 w2 (λ s. (s.mention, untold)) c.loop-subject.invariant.asked c.in_ok-written.ensures.asked;
+      goes_on = g.M.WrittenBy.follows c.args.writer.now c.loop-subject.writer c.write_first.new.writer c.loop-subject.invariant.goes_on c.in_ok-written.ensures.goes_on;
     }
 
 pub returns : goal.returns
@@ -43,4 +44,5 @@ returns g c =
     record {
       firsts = subst (λ ss. AreFirsts w0 ss c.loop-subject.firsts) all c.loop-subject.invariant.firsts;
       asked = c.loop-subject.invariant.asked ∙ ap (λ ss. asked_for (map (λ s. (s.mention, untold)) ss) w0) all;
+      goes_on = c.loop-subject.invariant.goes_on;
     }

@@ -74,4 +74,5 @@ returns g c =
       texts = c.in_ok-with_suffixes.ensures.texts ∙ ap (λ ms. map (text_of ms) ms) (read ∙ again);
       asked = asked-more w0 w1 w2 before (flat_map (tasks_of Changed.Choice) (zip ss c.deref-3.result.now)) named.asked c.in_ok-write_changed.ensures.asked
           ∙ ap (λ ts. asked_for (before ++ ts) w0) (ap (λ ts. flat_map (tasks_of Changed.Choice) (zip ss ts)) told ∙ tasks-are Changed.Choice (zip ss (third_table (reading w0) ss)));
+      goes_on = g.M.WrittenBy.follows c.args.writer.now c.tell_by_names.new.writer c.write_changed.new.writer c.in_ok-named.ensures.goes_on c.in_ok-write_changed.ensures.goes_on;
     }

@@ -66,4 +66,5 @@ returns g c =
       again = held ∙ lasts;
       asked = asked-more w0 w1 w2 (first_tasks ss) (flat_map (tasks_of Changed.Names) (zip ss c.deref-2.result.now)) c.in_ok-firsts.ensures.asked c.in_ok-write_changed.ensures.asked
           ∙ ap (λ ts. asked_for (first_tasks ss ++ ts) w0) (ap (λ ts. flat_map (tasks_of Changed.Names) (zip ss ts)) told ∙ tasks-are Changed.Names (zip ss (second_table (reading w0) ss)));
+      goes_on = g.M.WrittenBy.follows c.args.writer.now c.write_firsts.new.writer c.write_changed.new.writer c.in_ok-firsts.ensures.goes_on c.in_ok-write_changed.ensures.goes_on;
     }
