@@ -104,17 +104,17 @@ pub fn answer_csl_by<'a, T: EntryLike, P: Eq + Drop, S: CiteSource>(
         (job_of driver.now request.now) (r.rendered, r.account)) }
     ensures written { IfOk result (λ r. All (λ e. S.may_write source.now e.0 e.1) r.table.entries) }
 {
-    let mut table = IndexMap::new(alloc);
+    let mut filled = IndexMap::new(alloc);
     for _ in 0..calls {
-        match drive_csl(alloc, driver, request, &table) {
+        match drive_csl(alloc, driver, request, &filled) {
             Ok(Driven::Answer(rendered, account)) => {
                 return Ok(FilledAnswer {
                     rendered,
                     account,
-                    table,
+                    table: filled,
                 });
             }
-            Ok(Driven::Missing(missing)) => fill(alloc, source, missing, &mut table)?,
+            Ok(Driven::Missing(missing)) => fill(alloc, source, missing, &mut filled)?,
             Err(error) => return Err(FillError::Driver(error)),
         }
     }

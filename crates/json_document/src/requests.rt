@@ -192,11 +192,7 @@ fn apart_of(alloc: Global, rounds: Rounds, value: &Value) -> Result<Apart, ReadE
 }
 
 #[tactic(auto, using(json_values::proofs::Ways::fails_outside))]
-fn optional_apart(
-    alloc: Global,
-    rounds: Rounds,
-    value: &Value,
-) -> Result<Option<Apart>, ReadError>
+fn optional_apart(alloc: Global, rounds: Rounds, value: &Value) -> Result<Option<Apart>, ReadError>
     ensures read { Reads (λ a. a) result
         (where_present (apart_form rounds) (codes "apart") (view value.now)) }
     ensures fault { Faults result (view value.now) }

@@ -30,5 +30,6 @@ pub(crate) fn rounds_of(alloc: Global, object: &Value) -> Result<Rounds, ReadErr
     ensures read { Reads (λ r. r) result (rounds_form (view object.now)) }
     ensures fault { Faults result (view object.now) }
 {
-    name_or(alloc, ROUNDS, object, "rounds", Rounds::Mode(RoundMode::Three))
+    let three = Rounds::Mode(RoundMode::Three);
+    name_or(alloc, ROUNDS, object, "rounds", three)
 }

@@ -248,10 +248,7 @@ fn fill_often(
 }
 
 /// What comes of the table.
-pub fn driven<'a>(
-    asking: &Asking<'a, '_>,
-    table: &Table,
-) -> Result<Driven<Costs<'a>>, RunError> {
+pub fn driven<'a>(asking: &Asking<'a, '_>, table: &Table) -> Result<Driven<Costs<'a>>, RunError> {
     let job = asking.job;
     let driver = filled_driver(asking.alloc, &job.requests, asking.files, job.offset)?;
     let request = bibliography_request(asking.alloc, job, asking.files)?;
