@@ -179,6 +179,9 @@ def test_notes_and_positions(driver):
      'purpose': 'prose', 'verdict': 'date'},
     {'kind': 'cite', 'style': 's', 'locale': 'en-US', 'entry': 'e', 'number': 3,
      'state': {'names': ['short', 'count']}},
+    {'kind': 'cite', 'style': 's', 'locale': 'en-US', 'entry': 'e', 'number': 3, 'place': [0, 0],
+     'names': ['initials', 'count'], 'choose': True, 'suffix': 0},
+    {'kind': 'date', 'style': 's', 'locale': 'en-US', 'entry': 'e', 'place': [0, 1], 'suffix': 2},
 ])
 def test_a_task_is_the_value_that_the_driver_asked_for(data):
     task = gamhilon.Task.of(data)
@@ -201,6 +204,14 @@ def test_a_state_is_told_by_the_properties_of_a_task():
     assert [(task.disambiguates, task.name_forms, task.year_suffix)
             for task in (plain, chosen, named)] == [
                 (False, None, ''), (True, None, ''), (False, ('full',), '')]
+
+
+def test_means_are_told_by_the_properties_of_a_task():
+    alone = gamhilon.Task('date', 's', 'en-US', 'e', suffix=1)
+    several = gamhilon.Task('cite', 's', 'en-US', 'e', names=('full',), choose=True, suffix=0)
+    assert [(task.disambiguates, task.name_forms, task.year_suffix)
+            for task in (alone, several)] == [
+                (False, None, 'b'), (True, ('full',), 'a')]
 
 
 @pytest.mark.parametrize('first, repeats, position', [
