@@ -1,5 +1,4 @@
 //! How a document has works told apart.
-ghost use Rattle.std.specs.Prelude.{◌≡◌, codes};
 ghost use Rattle.serde_json.specs.View.{view};
 ghost use Rattle.json_document.specs.Rounds.{rounds_form};
 ghost use Rattle.json_values.specs.Reads.{Faults, Reads};
@@ -19,6 +18,7 @@ pub enum Rounds {
     Csl,
 }
 
+/// What a document says of that.
 const ROUNDS: &[(&str, Rounds)] = &[
     ("three", Rounds::Mode(RoundMode::Three)),
     ("full", Rounds::Mode(RoundMode::Full)),
