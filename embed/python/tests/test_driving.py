@@ -69,6 +69,27 @@ def test_ambiguous_cites_get_suffixes_and_given_names_and_collapse(driver):
         ('three', 'John Doe 1999')]
 
 
+def test_where_rounds_is_csl_names_and_suffixes_are_told_together(driver):
+    """Jane and John are told by their given names, and the works of Jane by suffixes beside them, in
+    the order of the bibliography. A cite with a locator keeps its year."""
+    told = []
+
+    def noting(task):
+        told.append((task.state, task.names, task.suffix))
+        return write(task)
+
+    asked = document([{'entry': 'two'}, {'entry': 'four'},
+                      {'entry': 'one', 'locator': ['page', '4']}], [{'entry': 'three'}],
+                     rounds='csl')
+    asked['bibliography']['order'] = ['one', 'two', 'four', 'three']
+    answer = gamhilon.render_with(asked, noting)
+    assert texts(answer) == ['(Jane Doe 1999b, 1999a, 4; Roe 1999)', '(John Doe 1999)']
+    assert [(item.key, gamhilon.plain(item.content)) for item in answer.bibliography.items] == [
+        ('one', 'Jane Doe 1999a'), ('two', '——— 1999b'), ('four', 'Roe 1999'),
+        ('three', 'John Doe 1999')]
+    assert (None, ('full',), 1) in told and all(state is None for state, _, _ in told)
+
+
 def test_each_task_is_written_once(driver):
     seen = []
 
