@@ -16,7 +16,7 @@ use Rattle.csl_driver.specs.declared.error.RingLocation.{RingLocation}
 use Rattle.csl_assembly.specs.declared.rendered.Rendered.{Rendered}
 use Rattle.json_document.specs.Form.{Document}
 use Rattle.json_document.specs.declared.rounds.Rounds.{Rounds}
-use Rattle.json_document.specs.declared.rounds.Rounds.TheVariants as rounds
+use Rattle.json_document.specs.declared.rounds.Rounds.TheVariants as ways
 use Rattle.cite_document.specs.declared.error.RunError.{RunError}
 use Rattle.cite_document.specs.declared.error.RunError.TheVariants as errors
 
@@ -42,9 +42,9 @@ document_job d = record { wanted = wanted_of d; requests = accepted d.requests; 
 
 -- the whole answer in so many rounds, or as CSL has it
 abbrev pub answer_in : Rounds → Job PlainEntry Infallible → Rendered
-answer_in (rounds.Mode mode) job =
+answer_in (ways.Mode mode) job =
     rendered same_plain_entry same_own_payload (layout_writing plain_answers) mode job
-answer_in rounds.Csl job =
+answer_in ways.Csl job =
     rendered_csl same_plain_entry job (layout_writing plain_answers) same_own_payload
 
 -- the whole answer to a document, in the rounds that it names

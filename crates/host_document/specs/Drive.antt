@@ -18,7 +18,7 @@ use Rattle.host_driver.specs.Driven.{IsCslDriven, IsDriven}
 use Rattle.host_driver.specs.declared.drive.Driven.{Driven}
 use Rattle.host_driver.specs.declared.drive.Driven.TheVariants as results
 use Rattle.json_document.specs.declared.rounds.Rounds.{Rounds}
-use Rattle.json_document.specs.declared.rounds.Rounds.TheVariants as rounds
+use Rattle.json_document.specs.declared.rounds.Rounds.TheVariants as ways
 use Rattle.json_tasks.specs.TaskData.{task_data}
 use Rattle.cite_document.specs.Run.{IsDocumentThat, IsRefusedFor, document_job, same_plain_entry, same_own_payload}
 use Rattle.cite_document.specs.declared.error.RunError.{RunError}
@@ -40,10 +40,10 @@ driven_text (results.Missing missing) = missing_text missing.keys
 -- the text is that of the answer in these rounds, with what a table has, or of what is missing of
 -- that
 abbrev pub TellsIn : Rounds → (TaskKey → Option Cite) → Job PlainEntry Infallible → List ℕ → Type 0
-TellsIn (rounds.Mode mode) table job text = (r : Driven (Account PlainEntry))
+TellsIn (ways.Mode mode) table job text = (r : Driven (Account PlainEntry))
     × IsDriven same_plain_entry same_own_payload plain_answers table mode job r
     × (text ≡ driven_text r)
-TellsIn rounds.Csl table job text = (r : Driven (CslAccount PlainEntry))
+TellsIn ways.Csl table job text = (r : Driven (CslAccount PlainEntry))
     × IsCslDriven same_plain_entry same_own_payload plain_answers table job r
     × (text ≡ driven_text r)
 
