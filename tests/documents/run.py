@@ -24,7 +24,7 @@ printed. What is expected was worked out by hand from the rules, never taken fro
 rows/ whole runs; layouts/ each kind of element; words/ locales, terms, quotes and punctuation; purposes/ what cites are
 written for; keywords/ each name of a variable, term, form and so on; parts/ each kind of object with all its keys;
 disambiguation/, rounds/, grouping/, collapsing/ and bibliography/ how cites and items work together, csl/ how they do in the mode
-`csl` (which the program doesn't have yet: HAS_CSL), alone/ citations that
+`csl`, alone/ citations that
 stand for themselves, equality/ requests that are equal and others (each with a README.md that tells why a document prints what it does); hostile/ depth; refused/ what the program and the schema refuse;
 beyond_schema/ what the program alone refuses.
 The last line is 'N passed, M failed', and the exit status is 1 where a test failed."""
@@ -55,8 +55,6 @@ LINES = {
 ENDINGS = ('.json', '.txt', '.status', '.account', '.alone', '.passes', '.equality', '.context', '.cites')
 SECONDS = 60
 RANDOM_DOCUMENTS = 2000
-# Whether the program has the mode `csl`: its folder, and random documents of it, are left out until then.
-HAS_CSL = False
 # What a fault says of a value, and how deep JSON may nest.
 FOUND = {type(None): 'null', bool: 'a truth value', int: 'a number', float: 'a number', str: 'a text', list: 'a list', dict: 'an object'}
 MOST_LEVELS = 127
@@ -112,7 +110,7 @@ def hold(got, status, text=b''):
 
 
 def folders_of(base):
-    return sorted(it.path for it in os.scandir(base) if it.is_dir() and (HAS_CSL or it.name != 'csl'))
+    return sorted(it.path for it in os.scandir(base) if it.is_dir())
 
 
 def documents(folders=None):
@@ -613,6 +611,8 @@ SWEPT = [
 ]
 # Those by `finish_full`.
 SWEPT_FULL = ['rounds/no_round', 'rounds/suffix_by_entry', 'rounds/group_that_waits', 'rounds/names_that_do_not_help']
+# Those by `finish_csl`.
+SWEPT_CSL = ['csl/condition_and_then_a_suffix', 'csl/given_names_by_document', 'csl/ranges_of_suffixes', 'csl/repeated_authors_one_by_one']
 # Those that have a refusal for an answer, or a number that is just not too large.
 SWEPT_REFUSALS = [
     'rows/ring_of_two_macros',
@@ -634,7 +634,7 @@ SWEPT_PASSES = {
     'bibliography/author_substitution': ['find_ambiguous_sets', 'substitute_subsequent_authors'],
 }
 # Those that are answered from a table.
-SWEPT_TABLES = ['disambiguation/suffix_by_entry', 'bibliography/author_substitution']
+SWEPT_TABLES = ['disambiguation/suffix_by_entry', 'bibliography/author_substitution', 'csl/condition_and_then_a_suffix']
 # The calls of a writing context that take memory; each is made in a context of its own, whose text fills its spare memory.
 HEIGHTS = ['ensure_space', 'push_str', 'push_chunked', 'push_link', 'push_transparent', 'push_quotes', 'pop_quotes', 'write_str']
 HEIGHTS += ['push_format', 'pop_format', 'push_elem', 'commit_elem', 'discard_elem', 'push_delimiter', 'push_name_options']
@@ -642,7 +642,7 @@ HEIGHTS += ['apply_prefix', 'has_content_since', 'apply_suffix', 'flush']
 # Those that render an entry without a driver, and copy an element.
 RENDERING = ['StyleContext::citation', 'date_replacement', 'Elem::clone']
 # Calls of the three programs of calls, which name them before they make them; the status is 5 where one is refused, but for `citation`.
-CALLS = ['read', 'prepare', 'citation', 'finish', 'finish_counted', 'finish_full', 'standalone_citation', 'run', 'clone', 'context', 'finish_with', 'drive', 'answer_by']
+CALLS = ['read', 'prepare', 'citation', 'finish', 'finish_counted', 'finish_full', 'finish_csl', 'standalone_citation', 'run', 'clone', 'context', 'finish_with', 'drive', 'answer_by']
 CALLS += [*PASSES, *HEIGHTS, *RENDERING]
 # Those that print before others are called.
 PRINT = ['standalone_citation', 'context', *PASSES, *RENDERING]
@@ -779,7 +779,7 @@ def sweeps_of_contexts(shim, program):
 def sweeps_of_answers(shim, program):
     """Those of the calls that answer whole documents. Requests are of prepared styles, and under `finish unprepared` of none."""
     made = []
-    for way, names in (('finish', SWEPT), ('finish unprepared', SWEPT), ('finish_counted', SWEPT), ('finish_full', SWEPT_FULL)):
+    for way, names in (('finish', SWEPT), ('finish unprepared', SWEPT), ('finish_counted', SWEPT), ('finish_full', SWEPT_FULL), ('finish_csl', SWEPT_CSL)):
         for name in [*names, *SWEPT_REFUSALS]:
             base = HERE + '/' + name
             status, text = wanted(base)
@@ -897,7 +897,7 @@ def main():
     validator = validator_of_schema()
     bases = documents()
     tests = [('model: %d random documents' % RANDOM_DOCUMENTS, model, program)]
-    tests += [('model: %d random documents of the mode csl' % RANDOM_DOCUMENTS, model, program, 'csl')] if HAS_CSL else []
+    tests.append(('model: %d random documents of the mode csl' % RANDOM_DOCUMENTS, model, program, 'csl'))
     tests += [('process: ' + it.__name__.replace('_', ' '), it, program) for it in reversed(PROCESSES)]
     calls, tables, contexts, rows = (beside(program, it) for it in ('test_calls', 'test_tables', 'test_contexts', 'test_rows'))
     try:

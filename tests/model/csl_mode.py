@@ -94,8 +94,12 @@ class CslMode:
                 rows[-1].append(cite)
         return rows
 
+    def home(self, key):
+        """The first cite of an entry, while the cites stand as they were handed in."""
+        return next(cite for row in self.rows for cite in row if cite.key == key)
+
     def mention(self, key, is_later):
-        home = next(cite for row in self.rows for cite in row if cite.key == key)
+        home = self.home(key)
         request = self.requests[home.request]
         style = self.document.styles[request['style']]
         is_near = is_later and style.get('class') == 'note'
@@ -138,8 +142,8 @@ class CslMode:
 
     def tell_by_condition(self):
         """All that test it, of those that still read alike."""
-        alike = [mention for group in groups_of(self.mentions) for mention in group]
-        changed = [mention for mention in alike if mention.tested]
+        alike = {mention for group in groups_of(self.mentions) for mention in group}
+        changed = [mention for mention in self.mentions if mention in alike and mention.tested]
         for mention in changed:
             mention.chosen = True
         self.round('the condition', changed)
@@ -180,13 +184,15 @@ class CslMode:
             if row:
                 shrink(row, row[0].citation, self.events)
 
-    def last_tree(self, cite):
-        request = self.requests[cite.request]
+    def last_properties(self, cite):
         mention = cite.mention
         means = Means(mention.names, mention.chosen, cite.suffix)
-        properties = Properties(
+        return Properties(
             cite.number, cite.item.get('locator'), cite.first_note, cite.is_near, cite.is_first,
             cite.position, usage=mention.properties.usage, means=means)
+
+    def last_tree(self, cite):
+        request, properties = self.requests[cite.request], self.last_properties(cite)
         style, entry = self.document.styles[request['style']], self.document.entries[cite.key]
         renderer = self.document.renderer(style, request.get('locale'), entry, properties)
         self.renders += 1
@@ -204,14 +210,20 @@ class CslMode:
 
     # The bibliography
 
-    def item(self, key):
+    def first_in_the_end(self, key):
+        """The first cite of an entry in the final order."""
+        return next(cite for row in self.rows for cite in row if cite.key == key)
+
+    def item_properties(self, key):
         """With the number and the first note of the first cite of its entry in the final order; no
         test of a position holds in it, and no names are added."""
-        cite = next(cite for row in self.rows for cite in row if cite.key == key)
-        later = self.laters[self.listed.index(key)]
+        cite, later = self.first_in_the_end(key), self.laters[self.listed.index(key)]
         means = Means(None, later.chosen, self.suffixes.get(key))
-        properties = Properties(cite.number, None, cite.first_note, False, None,
-                                usage=cite.mention.properties.usage, means=means)
+        return Properties(cite.number, None, cite.first_note, False, None,
+                          usage=cite.mention.properties.usage, means=means)
+
+    def item(self, key):
+        properties = self.item_properties(key)
         locale, entry = self.document.wanted.get('locale'), self.document.entries[key]
         renderer = self.document.renderer(self.bibliography_style, locale, entry, properties)
         self.renders += 1
@@ -236,8 +248,8 @@ class CslMode:
         """The tree of each citation, and the items of the bibliography."""
         self.tell_apart()
         self.place_cites()
-        citations = [self.citation(request, row) for request, row in zip(self.requests, self.rows)]
-        return citations, self.items()
+        items = self.items()
+        return [self.citation(*both) for both in zip(self.requests, self.rows)], items
 
     def account(self):
         """Of the parts that were given: how much was written, how many rounds told something, and

@@ -1,5 +1,5 @@
 -- The cites of requests, as they are arranged.
-use Rattle.std.specs.Prelude.{ℕ, Bool, List, None, Option, is_some, map, option_map}
+use Rattle.std.specs.Prelude.{ℕ, Bool, List, Option, is_some, map, option_map}
 use Rattle.std.specs.Borrow.{Bor}
 use Rattle.std.specs.List.{list_any, zip}
 use Rattle.csl_style_values.specs.Style.{CitationValue}

@@ -77,6 +77,7 @@ pub mod of_driver {
     pub use csl_driver::cite::Cite;
     pub use csl_driver::context::Context;
     pub use csl_driver::counter::Renders;
+    pub use csl_driver::csl_account::CslAccount;
     pub use csl_driver::driver::BibliographyDriver;
     pub use csl_driver::elem::BufWriteFormat;
     pub use csl_driver::elem::Elem;
