@@ -7,7 +7,7 @@ ghost use Rattle.csl_runs.specs.Stretches.{both};
 ghost use Rattle.csl_blocks.specs.Blocks.{block_order, is_parted, placed_cites};
 ghost use Rattle.csl_blocks.specs.Firsts.{IsNoted, first_by, part_by, same_key};
 
-use csl_runs::suffixes::Apart;
+use csl_lookup::apart::Apart;
 use std::alloc::{AllocError, Global};
 use std::collections::HashMap;
 

@@ -12,8 +12,8 @@ pub use csl_passes::{item, request};
 pub use csl_round_laws::mode;
 pub use csl_writers::{task, writer};
 pub use csl_writing::{
-    brackets, cite, context, counter, layout_writer, locator, lookup, means, prepared, properties,
-    purpose, state, terms, token, writing, year,
+    apart, brackets, cite, context, counter, layout_writer, locator, lookup, means, prepared,
+    properties, purpose, state, terms, token, writing, year,
 };
 
 pub mod account;

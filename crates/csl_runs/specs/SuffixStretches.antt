@@ -5,7 +5,7 @@ use Rattle.std.specs.Option.{is_none, option_eq}
 use Rattle.csl_runs.specs.Stretches.{ends_long, is_inner, is_later}
 use Rattle.csl_runs.specs.declared.collapsed.CollapsedCite.{CollapsedCite}
 use Rattle.csl_runs.specs.declared.collapsed.Delimiter.{Delimiter}
-use Rattle.csl_runs.specs.declared.suffixes.Apart.{Apart}
+use Rattle.csl_lookup.specs.declared.apart.Apart.{Apart}
 use Rattle.csl_runs.specs.declared.suffixes.Suffix.{Suffix}
 use Rattle.csl_runs.specs.declared.suffixes.SuffixedCite.{SuffixedCite}
 

@@ -8,16 +8,8 @@ ghost use Rattle.csl_runs.specs.SuffixStretches.{are_next, are_of_one_class, fit
 
 use crate::around::{Around, ends_long, moved, unlinked};
 use crate::collapsed::{CollapsedCite, Delimiter};
+use csl_lookup::apart::Apart;
 use std::alloc::{AllocError, Global};
-
-/// Words of a caller's around a cite, by which it stands apart from others.
-#[derive(Clone, Copy)]
-pub enum Apart {
-    /// Words stand before it alone.
-    Before,
-    /// Words stand behind it, or its author is left out.
-    Both,
-}
 
 /// The suffix of an entry's year.
 #[derive(Clone, Copy)]

@@ -40,6 +40,7 @@ item_form entry d = do
     locale = locale;
     hidden = hidden;
     purpose = purpose;
+    apart = None;
     place = 0;
   })
 

@@ -72,6 +72,7 @@ pub mod of_writing {
 /// Those of `csl_driver`.
 pub mod of_driver {
     pub use csl_driver::account::Account;
+    pub use csl_driver::apart::Apart;
     pub use csl_driver::brackets::Brackets;
     pub use csl_driver::cite::Cite;
     pub use csl_driver::context::Context;
