@@ -1,6 +1,7 @@
 //! Requests whose cites are arranged.
 use csl_blocks::blocks::PlacedCite;
-use csl_runs::suffixes::{Apart, Suffix};
+use csl_lookup::apart::Apart;
+use csl_runs::suffixes::Suffix;
 use csl_style_values::style::Collapse;
 
 /// What a style says of how cites are grouped and collapse.

@@ -71,6 +71,7 @@ module _ (told : ToldValue) where
       hidden = c.hidden;
       locale = c.locale;
       purpose = c.purpose;
+      apart = c.apart;
       verdict = None;
     }
 

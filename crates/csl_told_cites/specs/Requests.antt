@@ -1,5 +1,5 @@
 -- The cites of requests, as they are arranged.
-use Rattle.std.specs.Prelude.{ℕ, Bool, List, None, Option, is_some, map, option_map}
+use Rattle.std.specs.Prelude.{ℕ, Bool, List, Option, is_some, map, option_map}
 use Rattle.std.specs.Borrow.{Bor}
 use Rattle.std.specs.List.{list_any, zip}
 use Rattle.csl_style_values.specs.Style.{CitationValue}
@@ -7,7 +7,6 @@ use Rattle.csl_lookup.specs.Properties.{LocatorValue}
 use Rattle.csl_lookup.specs.PropertiesView.{locator_view}
 use Rattle.csl_lookup.specs.declared.locator.SpecificLocator.{SpecificLocator}
 use Rattle.csl_notes.specs.declared.notes.CiteNotes.{CiteNotes}
-use Rattle.csl_runs.specs.declared.suffixes.Apart.{Apart}
 use Rattle.csl_arranging.specs.Requests.{Request as Arranged}
 use Rattle.csl_arranging.specs.declared.request.CiteStyle.{CiteStyle}
 use Rattle.csl_arranging.specs.declared.request.RequestFacts.{RequestFacts}
@@ -26,10 +25,6 @@ cite_style c = record {
 }
 
 module _ {E P : Type 0} where
-  -- words of a caller's around a cite: there are none yet
-  abbrev pub apart_of : RequestedCite E P → Option Apart
-  apart_of c = None
-
   -- some cite has a purpose
   abbrev pub has_purpose : List (RequestedCite E P) → Bool
   has_purpose = list_any (λ c. is_some c.purpose)
@@ -51,7 +46,7 @@ module _ {E P : Type 0} where
           entry = entry;
           locator = c.locator;
           hidden = c.hidden;
-          apart = apart_of c;
+          apart = c.apart;
           names = mention.names;
           text = mention.text;
           shows_number = mention.shows_number;

@@ -123,6 +123,7 @@ fn told_cite<'a, T, P: Drop>(
         hidden: item.hidden,
         locale: item.locale.clone()?,
         purpose: item.purpose,
+        apart: item.apart,
         collapse_verdict: None,
     })
 }

@@ -12,7 +12,6 @@ ghost use Rattle.csl_passes.specs.RequestView.{cite_view, cites_view, request_vi
 ghost use Rattle.csl_style_values.specs.StyleView.{citation_view};
 ghost use Rattle.csl_told_cites.specs.ByPlaces.{plain_cites_at, plain_request_at, plain_requests_at};
 ghost use Rattle.csl_told_cites.specs.Requests.{
-  apart_of,
   cite_style,
   has_purpose,
   located,
@@ -32,18 +31,10 @@ use csl_lookup::locator::SpecificLocator;
 use csl_notes::notes::CiteNotes;
 use csl_passes::item::CitationItem;
 use csl_passes::request::CitationRequest;
-use csl_runs::suffixes::Apart;
 use std::alloc::{AllocError, Global};
 
 /// A cite as it is arranged, with the locator that its caller gave it.
 pub type LocatedCite<'r, 'a, P> = RequestedCite<&'r SpecificLocator<'a, P>>;
-
-/// Words of a caller's around a cite: there are none yet.
-fn apart_of<T, P>(_item: &CitationItem<'_, T, P>) -> Option<Apart>
-    ensures { result ≡ apart_of (cite_view _item.now) }
-{
-    None
-}
 
 fn locator_of<'r, 'a, T, P>(item: &'r CitationItem<'a, T, P>) -> Option<&'r SpecificLocator<'a, P>>
     ensures { option_map (λ l. locator_view l.now) result ≡ (cite_view item.now).locator }
@@ -102,7 +93,7 @@ fn plain_cite<'r, 'a, T, P>(
         entry,
         locator: locator_of(item),
         hidden: item.hidden,
-        apart: apart_of(item),
+        apart: item.apart,
         names: mention.names,
         text: mention.text,
         shows_number: mention.shows_number,
