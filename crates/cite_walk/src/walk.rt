@@ -256,7 +256,8 @@ impl<'s, 'c> Walk<'s, 'c> {
         let mark = Mark::Names(self.names.len());
         self.names.push(Seq::new(Vec::new(alloc)))?;
         self.open(marked(mark))?;
-        self.output.open(marked(Mark::Name(NameVariable::Author, 0)))
+        self.output
+            .open(marked(Mark::Name(NameVariable::Author, 0)))
     }
 
     /// Closes an element that may stand in for names. Where it has text, its variables are written
