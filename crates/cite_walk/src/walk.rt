@@ -243,8 +243,8 @@ impl<'s, 'c> Walk<'s, 'c> {
         Ok(())
     }
 
-    /// Opens an element that may stand in for names. In an item it counts as a name of nobody, which
-    /// the driver replaces where it repeats.
+    /// Opens an element that may stand in for names. In an item it counts as a name of nobody, and
+    /// is replaced where it repeats.
     fn open_substitute(&mut self) -> Result<(), AllocError> {
         let inside = self.scene.program.steps.get(self.here.saturating_add(1));
         let is_names = matches!(inside, Some(Step::Names { .. }));
