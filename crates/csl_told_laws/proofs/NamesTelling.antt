@@ -363,20 +363,20 @@ module _ {M : Type 0} (write : M → MentionState → Written) (subjects : List 
   named-at : (k : ℕ) (d : Subject M) → k < length subjects → slice_get (map (named write subjects) subjects) k ≡ Some (named write subjects (get_or subjects k d))
   named-at k d h = slice_get-map (named write subjects) subjects k ∙ ap (option_map (named write subjects)) (slice_get-get_or subjects k d h)
 
-  abbrev ended : Subject M → Subject M × MentionState
-  ended s = (s, settled write subjects s)
+  abbrev with_state : Subject M → Subject M × MentionState
+  with_state s = (s, settled write subjects s)
 
   abbrev Tells : Subject M × MentionState → Subject M × MentionState → Type 0
   Tells p q = NamesCanTell (map (named write subjects) subjects) (named write subjects p.0) (named write subjects q.0)
       → names_as_shown write subjects p ≢ names_as_shown write subjects q
 
-  pairs-tell : AllPairs Tells (map ended subjects)
+  pairs-tell : AllPairs Tells (map with_state subjects)
   pairs-tell i j d h l =
-      let long = length-map subjects ended in
+      let long = length-map subjects with_state in
       let in_j : j < length subjects = omega (arith, long, l) in
       let in_i : i < length subjects = omega (arith, in_j, h) in
-      subst (λ p. Tells p (get_or (map ended subjects) j d)) (sym (get_or-map ended subjects i d.0 d in_i))
-      (subst (Tells (ended (get_or subjects i d.0))) (sym (get_or-map ended subjects j d.0 d in_j))
+      subst (λ p. Tells p (get_or (map with_state subjects) j d)) (sym (get_or-map with_state subjects i d.0 d in_i))
+      (subst (Tells (with_state (get_or subjects i d.0))) (sym (get_or-map with_state subjects j d.0 d in_j))
       (names-apart (map (named write subjects) subjects) (named write subjects (get_or subjects i d.0)) (named write subjects (get_or subjects j d.0)) i j (named-at i d.0 in_i) (named-at j d.0 in_j)))
 
   pub names-tell : NamesTell write subjects (map (settled write subjects) subjects)
