@@ -1,3 +1,3 @@
-pub mod Asking
+pub mod AskedFor
 pub mod Cites
 pub mod WritingOn

@@ -1,22 +1,11 @@
 -- Writers that write and note as others.
-use Rattle.std.proofs.Common.{◌≡◌, ℕ, List, ap, refl, ◌∙◌}
+use Rattle.std.proofs.Common.{◌≡◌, ℕ, List, ap}
 use Rattle.csl_writers.specs.Desk.{Desk, after, desk}
 use Rattle.csl_writers.specs.Tasks.{TaskValue}
 use Rattle.csl_writers.specs.Writing.{WriterState}
 use Rattle.csl_cited_mentions.specs.Cited.{WritesOn}
 
 module _ {E P N : Type 0} where
-  pub writes-on-itself : (w : WriterState E P N) → WritesOn w w
-  writes-on-itself w = record { cite = refl; item = refl; date = refl; noting = refl }
-
-  pub writes-on-further : {u v w : WriterState E P N} → WritesOn u v → WritesOn v w → WritesOn u w
-  writes-on-further first second = record {
-    cite = second.cite ∙ first.cite;
-    item = second.item ∙ first.item;
-    date = second.date ∙ first.date;
-    noting = second.noting ∙ first.noting;
-  }
-
   -- once it was asked for something
   pub writes-on-after : (tasks : List (TaskValue E P)) (w v : WriterState E P N) (n m : ℕ) → desk v m ≡ after tasks (desk w n) → WritesOn w v
   writes-on-after tasks w v n m asked = record {

@@ -56,7 +56,7 @@ fn written_by<T: EntryLike, P, W: CiteWriter<T, P>>(
 impl<'t, 'p, T: EntryLike, P: Drop, W: CiteWriter<T, P>> WrittenBy<W, Renders>
     for CiteMention<'t, 'p, T, P> {
     ghost use Rattle.csl_cited_mentions.specs.Cited.{WritesOn, cited};
-    ghost use Rattle.csl_cited_mentions.proofs.WritingOn.{writes-on-further, writes-on-itself};
+    ghost use Rattle.csl_cited_mentions.specs.WritesOn.{writes-on-further, writes-on-itself};
 
     type Error = W::Error;
 

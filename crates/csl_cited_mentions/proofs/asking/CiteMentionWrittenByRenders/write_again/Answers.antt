@@ -6,7 +6,7 @@ use Rattle.csl_writers.specs.Tasks.{CiteTaskValue, cite_task}
 use Rattle.csl_cited_mentions.specs.Cited.{cited, first_task, task_in, with_properties}
 use Rattle.csl_cited_mentions.specs.Kept.{written_mention}
 use Rattle.csl_cited_mentions.specs.declared.kept.KeptOfMention.{KeptOfMention}
-use Rattle.csl_cited_mentions.proofs.Asking.{again-task, cited-after, same-task}
+use Rattle.csl_cited_mentions.proofs.AskedFor.{again-task, cited-after, same-task}
 use Rattle.csl_cited_mentions.proofs.WritingOn.{writes-on-after}
 use Rattle.csl_cited_mentions.proofs.asking.CiteMentionWrittenByRenders.write_again.Goals as goal
 

@@ -3,7 +3,7 @@ use Rattle.std.proofs.lemmas.Result.{on_ok_weaker}
 use Rattle.csl_tables.specs.Asked.{untold}
 use Rattle.csl_cited_mentions.specs.Cited.{first_task}
 use Rattle.csl_writers.specs.Tasks.{cite_task}
-use Rattle.csl_cited_mentions.proofs.Asking.{cited-after}
+use Rattle.csl_cited_mentions.proofs.AskedFor.{cited-after}
 use Rattle.csl_cited_mentions.proofs.WritingOn.{writes-on-after}
 use Rattle.csl_cited_mentions.proofs.asking.CiteMentionWrittenByRenders.write_first.Goals as goal
 
