@@ -7,8 +7,8 @@ use Rattle.csl_arranging.specs.Requests.{request_view, requests_view}
 use Rattle.csl_arranging.proofs.Walking.{all-have-positions, all-zipped, arranged_pair, zip-next}
 use Rattle.csl_arranging.proofs.arranged.arranged_cites.Goals as goal
 
-pub bounds-positions-k : goal.bounds-positions-k
-bounds-positions-k g c =
+pub index-requires : goal.index-requires
+index-requires g c =
     subst (λ n. c.loop-k.k < n) (sym (all-have-positions g.L.PartialEq.eq c.args.requests.now (λ p. p.items) c.in_ok-positions.positions.items c.in_ok-positions.ensures)) c.loop-k-test.true
 
 pub loop-k-preserved : goal.loop-k-preserved
@@ -17,7 +17,7 @@ loop-k-preserved g c =
     let k = c.loop-k.k in
     let numbers = c.args.numbers.now in
     let m = c.index-requests-k.result in
-    let q = c.index-positions-k.result in
+    let q = c.index.result.now in
     let found = c.in_ok-positions.positions.items in
     let within = c.loop-k-test.true in
     let has = subst (λ n. k < n) (sym (all-have-positions g.L.PartialEq.eq given (λ p. p.items) found c.in_ok-positions.ensures)) within in
@@ -26,7 +26,7 @@ loop-k-preserved g c =
     ∙ (λ i. c.loop-k.invariant i ++ (c.in_ok-arranged_request.ensures ∙ ap (arranged_request numbers (request_view m)) c.deref.ensures.value) i ∷ [])
     ∙ sym (ap (map (arranged_pair numbers)) (zip-next (requests_view given) (map (λ p. p.items) found) k (request_view m) q.items
     (within-view request_view given k within) (within-view (λ p. p.items) found k has) (here-view request_view given k m within c.index-requests-k.is)
-    (here-view (λ p. p.items) found k q has c.index-positions-k.is))
+    (here-view (λ p. p.items) found k q has c.index.ensures))
     ∙ map-append (arranged_pair numbers) (take k pairs) ((request_view m, q.items) ∷ []))
 
 pub returns : goal.returns
