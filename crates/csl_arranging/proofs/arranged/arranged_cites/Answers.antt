@@ -1,4 +1,4 @@
-use Rattle.std.proofs.Common.{◌≡◌, ◌<◌, [], ap, length, map, subst, sym, take, ◌++◌, ◌∷◌, ◌∙◌}
+use Rattle.std.proofs.Common.{arith, ◌≡◌, ◌<◌, [], ap, length, map, subst, sym, take, ◌++◌, ◌∷◌, ◌∙◌}
 use Rattle.std.specs.Prelude.{zip}
 use Rattle.std.proofs.lemmas.List.{map-append}
 use Rattle.csl_notes.proofs.Stepping.{here-view, past-view, within-view}
@@ -9,7 +9,10 @@ use Rattle.csl_arranging.proofs.arranged.arranged_cites.Goals as goal
 
 pub index-requires : goal.index-requires
 index-requires g c =
-    subst (λ n. c.loop-k.k < n) (sym (all-have-positions g.L.PartialEq.eq c.args.requests.now (λ p. p.items) c.in_ok-positions.positions.items c.in_ok-positions.ensures)) c.loop-k-test.true
+    let positions = c.in_ok-positions.positions in
+    let within : c.loop-k.k < length positions.items =
+        subst (λ n. c.loop-k.k < n) (sym (all-have-positions g.L.PartialEq.eq c.args.requests.now (λ p. p.items) positions.items c.in_ok-positions.ensures)) c.loop-k-test.true in
+    omega (arith, within, positions.ok.0)
 
 pub loop-k-preserved : goal.loop-k-preserved
 loop-k-preserved g c =
