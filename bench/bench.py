@@ -28,7 +28,7 @@ import tempfile
 ROOT = pathlib.Path(__file__).resolve().parent.parent
 SIZES = [1_000, 4_000, 16_000, 64_000]
 DOCUMENT_REFUSED = 2
-LINE = "{:<20} {:>7} {:>9} {:>9} {:>9} {:>7} {:>8}"
+LINE = "{:<23} {:>7} {:>9} {:>9} {:>9} {:>7} {:>8}"
 
 
 def numeric_style():
@@ -302,6 +302,21 @@ def whole_notes(n):
     return copies("note", n)
 
 
+def last_person_differs_csl(n):
+    """Works of six persons, of which the last differs, told apart as CSL 1.0.2 has it."""
+    return {**last_person_differs(n), "rounds": "csl"}
+
+
+def one_text_csl(n):
+    """Works of one title, which get suffixes as CSL 1.0.2 has it."""
+    return {**one_text(n), "rounds": "csl"}
+
+
+def whole_author_date_csl(n):
+    """n requests as users have them, told apart as CSL 1.0.2 has it."""
+    return {**whole_author_date(n), "rounds": "csl"}
+
+
 KINDS = {
     kind.__name__: kind
     for kind in (
@@ -309,6 +324,7 @@ KINDS = {
         ambiguous_pairs, one_author, one_family, without_text, interleaved, collapsing,
         one_text, last_person_differs, greatest_distance, whole_author_date, whole_numeric, whole_notes, chained,
         few_macros, many_macros, requests_and_macros, requests_and_terms, macro_chain, macro_calls,
+        last_person_differs_csl, one_text_csl, whole_author_date_csl,
     )
 }
 

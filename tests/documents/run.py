@@ -23,7 +23,8 @@ A document is NAME.json. NAME.txt is what it must print; where the status isn't 
 printed. What is expected was worked out by hand from the rules, never taken from the program. The folders:
 rows/ whole runs; layouts/ each kind of element; words/ locales, terms, quotes and punctuation; purposes/ what cites are
 written for; keywords/ each name of a variable, term, form and so on; parts/ each kind of object with all its keys;
-disambiguation/, rounds/, grouping/, collapsing/ and bibliography/ how cites and items work together, alone/ citations that
+disambiguation/, rounds/, grouping/, collapsing/ and bibliography/ how cites and items work together, csl/ how they do in the mode
+`csl`, alone/ citations that
 stand for themselves, equality/ requests that are equal and others (each with a README.md that tells why a document prints what it does); hostile/ depth; refused/ what the program and the schema refuse;
 beyond_schema/ what the program alone refuses.
 The last line is 'N passed, M failed', and the exit status is 1 where a test failed."""
@@ -184,9 +185,10 @@ def beside(program, name):
     return found if os.access(found, os.X_OK) else None
 
 
-def is_full(base):
-    """Whether a document asks for rounds until none marks."""
-    return json.loads(read(base + '.json')).get('rounds') == 'full'
+def call_of(base):
+    """The call of a driver that a document asks for."""
+    calls = {'full': 'finish_full', 'csl': 'finish_csl'}
+    return calls.get(json.loads(read(base + '.json')).get('rounds'), 'finish')
 
 
 def by_calls(calls, way, base, status, text):
@@ -205,7 +207,7 @@ def tests_of_calls(calls, bases):
         status, text = wanted(base)
         if status == 2:
             continue
-        call = 'finish_full' if is_full(base) else 'finish'
+        call = call_of(base)
         made.append(('%s: %s' % (call, name_of(base)), by_calls, calls, call, base, status, text))
         if os.path.isfile(base + '.account'):
             made.append(('account: ' + name_of(base), by_calls, calls, 'account', base, status, read(base + '.account')))
@@ -238,8 +240,8 @@ HOLDS = 'as it should be'
 CASES = """
 pieces_and_marks renders_are_counted initials_of_given_names texts_are_copied lists_are_copied pieces_are_copied
 equal_entries_are_one note_numbers_in_notes cites_are_marked numbers_have_entries hidden_numbers_are_read
-suffixes_have_letters writes_at_lent_places prepared_answers_alike years letters small_values properties_are_compared
-locators_differ_by_kind shrinks_at_the_top
+suffixes_have_letters alike_mentions_have_letters writes_at_lent_places prepared_answers_alike years letters small_values
+properties_are_compared means_raise_names locators_differ_by_kind shrinks_at_the_top
 """.split()
 
 
@@ -609,6 +611,8 @@ SWEPT = [
 ]
 # Those by `finish_full`.
 SWEPT_FULL = ['rounds/no_round', 'rounds/suffix_by_entry', 'rounds/group_that_waits', 'rounds/names_that_do_not_help']
+# Those by `finish_csl`.
+SWEPT_CSL = ['csl/condition_and_then_a_suffix', 'csl/given_names_by_document', 'csl/ranges_of_suffixes', 'csl/repeated_authors_one_by_one']
 # Those that have a refusal for an answer, or a number that is just not too large.
 SWEPT_REFUSALS = [
     'rows/ring_of_two_macros',
@@ -630,7 +634,7 @@ SWEPT_PASSES = {
     'bibliography/author_substitution': ['find_ambiguous_sets', 'substitute_subsequent_authors'],
 }
 # Those that are answered from a table.
-SWEPT_TABLES = ['disambiguation/suffix_by_entry', 'bibliography/author_substitution']
+SWEPT_TABLES = ['disambiguation/suffix_by_entry', 'bibliography/author_substitution', 'csl/condition_and_then_a_suffix']
 # The calls of a writing context that take memory; each is made in a context of its own, whose text fills its spare memory.
 HEIGHTS = ['ensure_space', 'push_str', 'push_chunked', 'push_link', 'push_transparent', 'push_quotes', 'pop_quotes', 'write_str']
 HEIGHTS += ['push_format', 'pop_format', 'push_elem', 'commit_elem', 'discard_elem', 'push_delimiter', 'push_name_options']
@@ -638,7 +642,7 @@ HEIGHTS += ['apply_prefix', 'has_content_since', 'apply_suffix', 'flush']
 # Those that render an entry without a driver, and copy an element.
 RENDERING = ['StyleContext::citation', 'date_replacement', 'Elem::clone']
 # Calls of the three programs of calls, which name them before they make them; the status is 5 where one is refused, but for `citation`.
-CALLS = ['read', 'prepare', 'citation', 'finish', 'finish_counted', 'finish_full', 'standalone_citation', 'run', 'clone', 'context', 'finish_with', 'drive', 'answer_by']
+CALLS = ['read', 'prepare', 'citation', 'finish', 'finish_counted', 'finish_full', 'finish_csl', 'standalone_citation', 'run', 'clone', 'context', 'finish_with', 'drive', 'answer_by']
 CALLS += [*PASSES, *HEIGHTS, *RENDERING]
 # Those that print before others are called.
 PRINT = ['standalone_citation', 'context', *PASSES, *RENDERING]
@@ -775,7 +779,7 @@ def sweeps_of_contexts(shim, program):
 def sweeps_of_answers(shim, program):
     """Those of the calls that answer whole documents. Requests are of prepared styles, and under `finish unprepared` of none."""
     made = []
-    for way, names in (('finish', SWEPT), ('finish unprepared', SWEPT), ('finish_counted', SWEPT), ('finish_full', SWEPT_FULL)):
+    for way, names in (('finish', SWEPT), ('finish unprepared', SWEPT), ('finish_counted', SWEPT), ('finish_full', SWEPT_FULL), ('finish_csl', SWEPT_CSL)):
         for name in [*names, *SWEPT_REFUSALS]:
             base = HERE + '/' + name
             status, text = wanted(base)
@@ -819,9 +823,9 @@ def sweeps(program, calls, tables, contexts):
     return made + (sweeps_of_contexts(shim, contexts) if contexts else [])
 
 
-def model(program):
-    """The model of tests/model gives what the program gives, on random documents."""
-    words = [sys.executable, 'compare.py', program, '0', str(RANDOM_DOCUMENTS)]
+def model(program, *mode):
+    """The model of tests/model gives what the program gives, on random documents, of this mode where one is named."""
+    words = [sys.executable, 'compare.py', program, '0', str(RANDOM_DOCUMENTS), *mode]
     done = subprocess.run(words, cwd=ROOT + '/tests/model', stdout=subprocess.PIPE, stderr=subprocess.STDOUT)
     if done.returncode:
         raise Failed(shortened(done.stdout, 4000))
@@ -893,6 +897,7 @@ def main():
     validator = validator_of_schema()
     bases = documents()
     tests = [('model: %d random documents' % RANDOM_DOCUMENTS, model, program)]
+    tests.append(('model: %d random documents of the mode csl' % RANDOM_DOCUMENTS, model, program, 'csl'))
     tests += [('process: ' + it.__name__.replace('_', ' '), it, program) for it in reversed(PROCESSES)]
     calls, tables, contexts, rows = (beside(program, it) for it in ('test_calls', 'test_tables', 'test_contexts', 'test_rows'))
     try:

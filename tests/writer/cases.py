@@ -251,6 +251,13 @@ CASES = [
          [person(it, 'Ape', 'A', 2000, title=it) for it in 'abc'], ['(Ape 2000a–c)'],
          in_citation='collapse="year-suffix-ranged" year-suffix-delimiter=", " disambiguate-add-year-suffix="true"',
          affixes='prefix="(" suffix=")" delimiter="; "'),
+    cite('numbers of a sorted list', 'Sorting: `citation-number`s follow the bibliography', '<text variable="citation-number"/>',
+         [person('z', 'Ape', 'A', 2000, title='Z'), person('a', 'Ape', 'A', 2001, title='A')], ['2', '1'], [cites('z'), cites('a')],
+         bibliography=TEXT, bibliography_sort='<sort><key variable="title"/></sort>'),
+    cite('suffixes of a sorted list', 'Disambiguation: year suffixes follow the bibliography', AUTHOR_YEAR,
+         [person('z', 'Ape', 'A', 2000, title='Z'), person('a', 'Ape', 'A', 2000, title='A')], ['Ape 2000b', 'Ape 2000a'],
+         [cites('z'), cites('a')], in_citation='disambiguate-add-year-suffix="true"',
+         bibliography=TEXT, bibliography_sort='<sort><key variable="title"/></sort>'),
     # Disambiguation
     cite('names are added', 'Disambiguation: `disambiguate-add-names`', AUTHOR_YEAR,
          [several('a', 2000, 'Ape', 'Bee', 'Cat'), several('b', 2000, 'Ape', 'Dog', 'Cat')],

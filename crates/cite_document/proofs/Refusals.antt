@@ -1,13 +1,9 @@
 -- What the driver answers to a document's requests, and what it refuses, is of the document.
-use Rattle.csl_writing.specs.LayoutWriting.{layout_writing}
 use Rattle.std.proofs.Common.{◌≡◌, ℕ, Bool, List, Some, refl, ap, sym, ◌∙◌, subst}
 use Rattle.std.specs.declared.alloc.AllocError.{AllocError}
 use Rattle.std.specs.declared.convert.Infallible.{Infallible}
-use Rattle.csl_values.specs.PlainEntry.{plain_answers}
 use Rattle.csl_values.specs.declared.entry.PlainEntry.{PlainEntry}
-use Rattle.csl_driver.specs.Answer.{rendered}
 use Rattle.csl_passes.specs.Request.{Wanted}
-use Rattle.csl_round_laws.specs.declared.mode.RoundMode.{RoundMode}
 use Rattle.csl_driver.specs.Driver.{Driver}
 use Rattle.csl_driver.specs.OwnError.{own_error}
 use Rattle.csl_driver.specs.Promised.{CanBeAnswered, RefusesWith}
@@ -19,7 +15,8 @@ use Rattle.csl_driver.specs.declared.error.FinishError.TheVariants as finishes
 use Rattle.csl_driver.specs.declared.error.RingLocation.{RingLocation}
 use Rattle.csl_assembly.specs.declared.rendered.Rendered.{Rendered}
 use Rattle.json_document.specs.Form.{Document}
-use Rattle.cite_document.specs.Run.{same_plain_entry, same_own_payload, accepted, wanted_of, answer, HasAnswer, HasFirstRing, HasTooLargeNumbers, IsRefusedFor}
+use Rattle.json_document.specs.declared.rounds.Rounds.{Rounds}
+use Rattle.cite_document.specs.Run.{same_plain_entry, accepted, wanted_of, answer, answer_in, HasAnswer, HasFirstRing, HasTooLargeNumbers, IsRefusedFor}
 use Rattle.cite_document.specs.Status.{refused}
 
 module _ (v : Driver PlainEntry Infallible) (w : Wanted PlainEntry) (d : Document) (p : v ≡ record { requests = accepted d.requests; offset = d.offset }) (q : w ≡ wanted_of d) where
@@ -28,11 +25,11 @@ module _ (v : Driver PlainEntry Infallible) (w : Wanted PlainEntry) (d : Documen
       subst (λ x. CanBeAnswered same_plain_entry (record { wanted = wanted_of d; requests = x.requests; offset = x.offset })) p
       (subst (λ (x : Wanted PlainEntry). CanBeAnswered same_plain_entry (record { wanted = x; requests = v.requests; offset = v.offset })) q can)
 
-  pub is_answer : (mode : RoundMode) (r : Rendered) → mode ≡ d.rounds → r ≡ rendered same_plain_entry same_own_payload (layout_writing plain_answers) mode (record { wanted = w; requests = v.requests; offset = v.offset }) → r ≡ answer d
-  is_answer mode r m e =
-      e ∙ ap (λ x. rendered same_plain_entry same_own_payload (layout_writing plain_answers) x (record { wanted = w; requests = v.requests; offset = v.offset })) m
-      ∙ ap (λ x. rendered same_plain_entry same_own_payload (layout_writing plain_answers) d.rounds (record { wanted = x; requests = v.requests; offset = v.offset })) q
-      ∙ ap (λ x. rendered same_plain_entry same_own_payload (layout_writing plain_answers) d.rounds (record { wanted = wanted_of d; requests = x.requests; offset = x.offset })) p
+  pub is_answer : (rounds : Rounds) (r : Rendered) → rounds ≡ d.rounds → r ≡ answer_in rounds (record { wanted = w; requests = v.requests; offset = v.offset }) → r ≡ answer d
+  is_answer rounds r m e =
+      e ∙ ap (λ x. answer_in x (record { wanted = w; requests = v.requests; offset = v.offset })) m
+      ∙ ap (λ x. answer_in d.rounds (record { wanted = x; requests = v.requests; offset = v.offset })) q
+      ∙ ap (λ x. answer_in d.rounds (record { wanted = wanted_of d; requests = x.requests; offset = x.offset })) p
 
   first_ring : (place : RingLocation) (i : ℕ) → IsFirstRingOf v.requests w.style place i → HasFirstRing place i d
   first_ring place i h =

@@ -67,6 +67,7 @@ wanted_text wanted.Locator = codes "what the locator counts, and its text"
 wanted_text wanted.Style = codes "the name of a style that is there"
 wanted_text wanted.Entry = codes "the key of an entry that is there"
 wanted_text wanted.MissingKey = codes "this key"
+wanted_text wanted.KeyOfCsl = codes "this key only where rounds is csl"
 wanted_text (wanted.KeyOf keys) = codes "one of the keys " ++ string_bytes keys
 wanted_text (wanted.NameOf names) = codes "one of " ++ string_bytes names
 

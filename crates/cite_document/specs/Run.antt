@@ -7,6 +7,7 @@ use Rattle.csl_values.specs.declared.entry.PlainEntry.{PlainEntry}
 use Rattle.csl_values.specs.contracts.entry.PlainEntryPartialEq.TheImpl as plain_entry_eq
 use Rattle.std.specs.contracts.prelude.InfalliblePartialEq.TheImpl as infallible_eq
 use Rattle.csl_driver.specs.Answer.{Job, rendered}
+use Rattle.csl_driver.specs.CslAnswer.{rendered_csl}
 use Rattle.csl_writing.specs.LayoutWriting.{layout_writing}
 use Rattle.csl_passes.specs.Request.{Request, Wanted, with_places}
 use Rattle.csl_driver.specs.Promised.{CanBeAnswered}
@@ -14,6 +15,8 @@ use Rattle.csl_driver.specs.Rings.{NoRingAtAll, IsFirstRingOf, Overflows}
 use Rattle.csl_driver.specs.declared.error.RingLocation.{RingLocation}
 use Rattle.csl_assembly.specs.declared.rendered.Rendered.{Rendered}
 use Rattle.json_document.specs.Form.{Document}
+use Rattle.json_document.specs.declared.rounds.Rounds.{Rounds}
+use Rattle.json_document.specs.declared.rounds.Rounds.TheVariants as ways
 use Rattle.cite_document.specs.declared.error.RunError.{RunError}
 use Rattle.cite_document.specs.declared.error.RunError.TheVariants as errors
 
@@ -37,10 +40,16 @@ wanted_of d = record { style = d.style; locale = d.locale; locales = d.locales; 
 abbrev pub document_job : Document → Job PlainEntry Infallible
 document_job d = record { wanted = wanted_of d; requests = accepted d.requests; offset = d.offset }
 
--- the whole answer to a document: that of as many rounds as it says
+-- the whole answer in so many rounds, or as CSL has it
+abbrev pub answer_in : Rounds → Job PlainEntry Infallible → Rendered
+answer_in (ways.Mode mode) job =
+    rendered same_plain_entry same_own_payload (layout_writing plain_answers) mode job
+answer_in ways.Csl job =
+    rendered_csl same_plain_entry job (layout_writing plain_answers) same_own_payload
+
+-- the whole answer to a document, in the rounds that it names
 abbrev pub answer : Document → Rendered
-answer d = rendered same_plain_entry same_own_payload (layout_writing plain_answers) d.rounds
-    (document_job d)
+answer d = answer_in d.rounds (document_job d)
 
 -- the first ring of a document's styles: the style's place, and that of its first macro on a ring
 abbrev pub HasFirstRing : RingLocation → ℕ → Document → Type 0

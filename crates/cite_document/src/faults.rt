@@ -140,6 +140,7 @@ fn push_wanted(text: &mut String, wanted: &Wanted) -> Result<(), AllocError>
         Wanted::Style => text.push_str("the name of a style that is there"),
         Wanted::Entry => text.push_str("the key of an entry that is there"),
         Wanted::MissingKey => text.push_str("this key"),
+        Wanted::KeyOfCsl => text.push_str("this key only where rounds is csl"),
         Wanted::KeyOf(keys) => push_named(text, "one of the keys ", keys.as_str()),
         Wanted::NameOf(names) => push_named(text, "one of ", names.as_str()),
     }

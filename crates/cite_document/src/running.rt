@@ -1,44 +1,75 @@
 //! The program's work, over any writer.
 ghost use Rattle.std.specs.Prelude.{◌≡◌, ℕ, None, Some, OnOk, IfErr, IsErrOf};
 ghost use Rattle.std.specs.Io.KnownBytes.{Appends, Keeps};
+ghost use Rattle.csl_driver.specs.JobView.{job_of};
+ghost use Rattle.csl_driver.specs.Promised.{FinishesWith};
 ghost use Rattle.csl_driver.specs.declared.error.RingLocation.{RingLocation};
 ghost use Rattle.json_document.specs.DocumentView.{document_view};
 ghost use Rattle.json_document.specs.Form.{form};
 ghost use Rattle.cite_document.specs.Print.{json_text, print};
 ghost use Rattle.cite_document.specs.Run.{
   answer,
+  answer_in,
   IsRunAnswer,
   HasAnswer,
   HasFirstRing,
   HasTooLargeNumbers,
   IsDocumentThat,
   Prints,
+  same_plain_entry,
 };
 
 use crate::error::RunError;
 use crate::filling::{bibliography_request, filled_driver};
 use crate::printing::print_rendered;
+use csl_base::entry::PlainEntry;
+use csl_driver::driver::BibliographyDriver;
+use csl_driver::error::FinishError;
 use csl_driver::layout_writer::LayoutWriter;
 use csl_driver::rendered::Rendered;
+use csl_driver::request::BibliographyRequest;
 use csl_driver::terms::TermTables;
 use json_answer::printing::print_json;
 use json_document::document::{Job, job_in, read_value, top_of};
 use json_document::entries::entries_of;
 use json_document::finders::found_styles;
+use json_document::rounds::Rounds;
 use json_styles::locales::locales_at;
 use json_styles::styles::styles_of;
-use std::alloc::Global;
+use std::alloc::{AllocError, Global};
+use std::convert::Infallible;
 use std::io::Write;
 
-/// The answer to what a document asks for, in as many rounds as it says.
+/// The answer of a driver in these rounds, as layouts write.
+fn answer_in<'e>(
+    driver: &BibliographyDriver<'e, PlainEntry, Infallible>,
+    request: &BibliographyRequest<'_, 'e, PlainEntry>,
+    rounds: Rounds,
+) -> Result<Rendered, FinishError<AllocError>>
+    ensures { FinishesWith same_plain_entry (job_of driver.now request.now)
+        (λ r. r ≡ answer_in rounds (job_of driver.now request.now)) result }
+{
+    let mut writer = LayoutWriter::new();
+    match rounds {
+        Rounds::Mode(mode) => {
+            let (rendered, _account) = driver.answer_with(request, mode, &mut writer)?;
+            Ok(rendered)
+        }
+        Rounds::Csl => {
+            let (rendered, _account) = driver.answer_csl_with(request, &mut writer)?;
+            Ok(rendered)
+        }
+    }
+}
+
+/// The answer to what a document asks for, in the rounds that it names.
 fn answer_job<'r>(alloc: Global, job: &'r Job<'_>) -> Result<Rendered, RunError>
     ensures { IsRunAnswer result (Some (document_view job.now)) }
 {
     let files = TermTables::new(alloc, job.locales)?;
     let driver = filled_driver(alloc, &job.requests, &files, job.offset)?;
     let request = bibliography_request(alloc, job, &files)?;
-    let mut writer = LayoutWriter::new();
-    let (rendered, _account) = driver.answer_with(&request, job.rounds, &mut writer)?;
+    let rendered = answer_in(&driver, &request, job.rounds)?;
     Ok(rendered)
 }
 

@@ -1,14 +1,13 @@
 //! The citations and the bibliography of a document.
 use crate::cites::Citation;
-use crate::driven::{Shrinking, driven_style};
-use crate::entries::{Items, given_names_of};
+use crate::driven::driven_style;
+use crate::entries::Items;
 use crate::error::AnswerError;
-use crate::joining::{ShownSuffix, joined};
+use crate::joining::joined;
 use crate::programs::Programs;
-use crate::requests::{DrivenStyles, Driver, bibliography_request, filled_driver, locators_of};
+use crate::requests::{Driver, bibliography_request, filled_driver, locators_of};
 use crate::setting::Setting;
 use crate::sorting::{SortedCitation, sorted_citations};
-use crate::states::ShownStates;
 use crate::writer::TaskWriter;
 use cite_locale::chain::LocaleChain;
 use cite_pieces::formatting::NOTHING_ASKED;
@@ -18,17 +17,12 @@ use cite_pieces::punctuation::punctuated;
 use cite_trees::streams::{cites_of, stream_of, stream_of_child};
 use csl_base::entry::PlainEntry;
 use csl_base::style::IndependentStyle;
-use csl_driver::mode::RoundMode;
 use csl_driver::rendered::{BibliographyItem, Rendered, RenderedBibliography, RenderedCitation};
 use csl_driver::request::BibliographyRequest;
 use csl_references::reference::References;
-use csl_writers::cite::Cite as DriverCite;
-use host_driver::drive::{Driven, drive_by};
-use host_table::key::TaskKey;
-use host_table::table::Table;
-use indexmap::{IndexMap, IndexSet};
+use host_driver::drive::{Driven, drive_csl};
+use indexmap::IndexMap;
 use std::alloc::{AllocError, Global};
-use style_file::sections::Collapse;
 use style_file::style::{CslStyle, StyleClass};
 
 /// A document.
@@ -61,21 +55,6 @@ pub struct ListedItem {
     pub content: Pieces,
 }
 
-/// What the driver answers, and what the cites show of it.
-#[derive(Drop)]
-struct Written {
-    rendered: Rendered,
-    suffixes: Vec<Vec<Option<ShownSuffix>>>,
-}
-
-/// What is known of the cites of a citation, by their places in its request.
-#[derive(Clone, Copy)]
-struct ShownCites<'w> {
-    /// Their places in the citation of the document.
-    places: &'w [usize],
-    suffixes: &'w [Option<ShownSuffix>],
-}
-
 /// How often the driver is asked at most.
 const MOST_CALLS: usize = 10_000;
 
@@ -96,32 +75,34 @@ impl<'d> Document<'d> {
         };
         let items = Items::cited(alloc, setting, self.references, self.citations)?;
         let citations = sorted_citations(alloc, setting, &items, self.citations)?;
-        let written = self.written(alloc, setting, &items, &citations)?;
-        self.finished(alloc, &written, &citations)
+        let rendered = self.rendered(alloc, setting, &items, &citations)?;
+        self.finished(alloc, &rendered, &citations)
     }
 
-    /// What the driver answers, in styles of its own.
-    fn written(
+    /// What the driver answers, in a style of its own.
+    fn rendered(
         &self,
         alloc: Global,
         setting: Setting<'_>,
         items: &Items<'d>,
         citations: &[SortedCitation<'d>],
-    ) -> Result<Written, AnswerError> {
-        let has_notes = self.has_notes(setting);
-        let usual = driven_style(alloc, self.style, Shrinking::AsTheStyle, has_notes)?;
-        let apart = driven_style(alloc, self.style, Shrinking::Never, has_notes)?;
-        let mut writer = task_writer(alloc, setting, items, citations)?;
-        writer.lists_items = self.lists_items;
-        let rendered = rendered_in(alloc, &usual, &apart, items, &mut writer)?;
-        let TaskWriter { suffixes, .. } = writer;
-        Ok(Written { rendered, suffixes })
+    ) -> Result<Rendered, AnswerError> {
+        let style = driven_style(alloc, self.style, self.has_notes(setting), self.lists_items)?;
+        let mut writer = TaskWriter {
+            alloc,
+            setting,
+            items,
+            citations,
+            table: IndexMap::new(alloc),
+            plain_cites: IndexMap::new(alloc),
+        };
+        rendered_in(alloc, &style, items, &mut writer)
     }
 
-    /// Whether the numbers of notes are told to the driver: the style asks for them, and it is one
-    /// of notes, or citations tell theirs.
+    /// Whether the numbers of notes are told to the driver: the style asks where cites stand, and
+    /// it is one of notes, or citations tell theirs.
     fn has_notes(&self, setting: Setting<'_>) -> bool {
-        setting.programs.asked_place.notes
+        setting.programs.asked_place.cites
             && (self.style.class == StyleClass::Note
                 || self
                     .citations
@@ -133,23 +114,19 @@ impl<'d> Document<'d> {
     fn finished(
         &self,
         alloc: Global,
-        written: &Written,
+        rendered: &Rendered,
         sorted: &[SortedCitation<'d>],
     ) -> Result<Answer, AnswerError> {
-        let rendered = &written.rendered;
         let mut citations = Vec::new(alloc);
         for (place, asked) in self.citations.iter().enumerate() {
             if let Some(citation) = rendered.citations.as_slice().get(place) {
-                let shown = ShownCites {
-                    places: places_at(sorted, place),
-                    suffixes: suffixes_at(written, place),
-                };
-                citations.push(self.citation(alloc, citation, shown, asked)?)?;
+                let places = places_at(sorted, place);
+                citations.push(self.citation(alloc, citation, places, asked)?)?;
             }
         }
         let bibliography = match &rendered.bibliography {
-            Some(bibliography) if self.lists_items => Some(self.listed(alloc, bibliography)?),
-            _ => None,
+            Some(bibliography) => Some(self.listed(alloc, bibliography)?),
+            None => None,
         };
         Ok(Answer {
             citations,
@@ -157,18 +134,16 @@ impl<'d> Document<'d> {
         })
     }
 
-    /// A citation as a stream.
+    /// A citation as a stream; its cites have these places in the document.
     fn citation(
         &self,
         alloc: Global,
         citation: &RenderedCitation,
-        shown: ShownCites<'_>,
+        places: &[usize],
         asked: &Citation,
     ) -> Result<Pieces, AllocError> {
-        let collapse = self.style.citation.options.collapse;
-        let is_ranged = collapse == Some(Collapse::YearSuffixRanged);
         let cites = cites_of(alloc, &citation.citation)?;
-        let stream = joined(alloc, cites, shown.places, shown.suffixes, is_ranged)?;
+        let stream = joined(alloc, cites, places)?;
         let stream = self.enclosed(alloc, stream, asked)?;
         punctuated(alloc, stream, self.locale.has_punctuation_in_quotes())
     }
@@ -246,57 +221,20 @@ fn places_at<'s>(sorted: &'s [SortedCitation<'_>], place: usize) -> &'s [usize] 
     }
 }
 
-/// The suffixes that the cites of a citation show.
-fn suffixes_at(written: &Written, place: usize) -> &[Option<ShownSuffix>] {
-    match written.suffixes.get(place) {
-        Some(suffixes) => suffixes.as_slice(),
-        None => &[],
-    }
-}
-
-/// What writes the tasks of a document.
-fn task_writer<'s, 'i, 'd>(
-    alloc: Global,
-    setting: Setting<'s>,
-    items: &'i Items<'d>,
-    citations: &'i [SortedCitation<'d>],
-) -> Result<TaskWriter<'s, 'i, 'd>, AllocError> {
-    let mut suffixes = Vec::new(alloc);
-    for citation in citations {
-        suffixes.push(vec![in alloc; None; citation.cites.len()]?)?;
-    }
-    Ok(TaskWriter {
-        alloc,
-        setting,
-        items,
-        citations,
-        given_names: given_names_of(alloc, setting.style, items.references.as_slice())?,
-        states: ShownStates::new(alloc, items.entries.len())?,
-        suffixes,
-        written: IndexMap::new(alloc),
-        lists_items: true,
-    })
-}
-
-/// What the driver answers in these styles.
+/// What the driver answers in this style.
 fn rendered_in<'e>(
     alloc: Global,
-    usual: &'e IndependentStyle,
-    apart: &'e IndependentStyle,
+    style: &'e IndependentStyle,
     items: &'e Items<'_>,
     writer: &mut TaskWriter<'_, '_, '_>,
 ) -> Result<Rendered, AnswerError> {
     let locators = locators_of(alloc, writer.citations)?;
-    let styles = DrivenStyles {
-        usual: &*usual,
-        apart: &*apart,
-    };
-    let driver = filled_driver(alloc, styles, &*items, writer.citations, &locators)?;
+    let driver = filled_driver(alloc, &*style, &*items, writer.citations, &locators)?;
     let mut order = Vec::new(alloc);
     for entry in &items.entries {
         order.push(entry)?;
     }
-    rendered_by(alloc, &driver, usual, &order, writer)
+    rendered_by(alloc, &driver, style, &order, writer)
 }
 
 /// What the driver answers, with the entries of the bibliography in this order.
@@ -318,33 +256,12 @@ fn asked_often<'e>(
     request: &BibliographyRequest<'_, 'e, PlainEntry>,
     writer: &mut TaskWriter<'_, '_, '_>,
 ) -> Result<Rendered, AnswerError> {
-    let mut table = IndexMap::new(alloc);
     for _ in 0..MOST_CALLS {
-        match drive_by(alloc, driver, request, RoundMode::Full, &table) {
+        match drive_csl(alloc, driver, request, &writer.table) {
             Ok(Driven::Answer(rendered, _account)) => return Ok(rendered),
-            Ok(Driven::Missing(missing)) => fill(writer, missing, &mut table)?,
+            Ok(Driven::Missing(missing)) => writer.fill(missing)?,
             Err(error) => return Err(AnswerError::from(error)),
         }
     }
     Err(AnswerError::Unsettled)
-}
-
-/// Writes what is missing into the table.
-fn fill(
-    writer: &mut TaskWriter<'_, '_, '_>,
-    missing: IndexSet<TaskKey>,
-    table: &mut Table,
-) -> Result<(), AllocError> {
-    writer.settle(&missing)?;
-    for key in missing {
-        let cite = writer.write(&key)?;
-        put(table, key, cite)?;
-    }
-    Ok(())
-}
-
-/// Puts what was written into the table.
-fn put(table: &mut Table, key: TaskKey, cite: DriverCite) -> Result<(), AllocError> {
-    table.insert(key, cite)?;
-    Ok(())
 }

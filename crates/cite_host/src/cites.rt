@@ -1,5 +1,6 @@
 //! Citations, as a document has them.
 use cite_walk::cite::CiteLocator;
+use csl_lookup::apart::Apart;
 
 /// A cite.
 #[derive(Drop)]
@@ -29,11 +30,15 @@ pub struct Citation {
 }
 
 impl Cite {
-    /// Whether the style may group and collapse the cite: it has no words of its own around it.
-    pub fn is_plain(&self) -> bool {
-        self.prefix.is_empty()
-            && self.suffix.is_empty()
-            && !self.suppresses_author
-            && !self.is_author_only
+    /// Where the cite stands apart from others, if it does: it has words of its own around it, or
+    /// only a part of it is written.
+    pub fn apart(&self) -> Option<Apart> {
+        if !self.suffix.is_empty() || self.suppresses_author || self.is_author_only {
+            Some(Apart::Both)
+        } else if !self.prefix.is_empty() {
+            Some(Apart::Before)
+        } else {
+            None
+        }
     }
 }

@@ -9,30 +9,21 @@ use std::alloc::{AllocError, Global};
 use std::num::NonZeroI16;
 use style_file::formatting::Formatting;
 use style_file::sections::{
-    Bibliography, Citation, CitationOptions, Collapse, GivenNameRule, Layout, SecondFieldAlign,
-    SubstituteRule,
+    Bibliography, Citation, Collapse, GivenNameRule, Layout, SecondFieldAlign, SubstituteRule,
 };
 use style_file::style::CslStyle;
 
-/// How the driver collapses cites.
-#[derive(Clone, Copy, PartialEq, Eq)]
-pub(crate) enum Shrinking {
-    AsTheStyle,
-    /// It doesn't: the cites have words of their own around them.
-    Never,
-}
-
-/// What the driver has to know of a style, to which numbers of notes matter if `has_notes`.
-/// The name of the style is not looked at.
+/// What the driver has to know of a style, to which numbers of notes matter if `has_notes`, and
+/// which has a bibliography only if `lists_items`. The name of the style is not looked at.
 pub(crate) fn driven_style(
     alloc: Global,
     style: &CslStyle,
-    shrinking: Shrinking,
     has_notes: bool,
+    lists_items: bool,
 ) -> Result<driven::IndependentStyle, AllocError> {
     let bibliography = match &style.bibliography {
-        Some(bibliography) => Some(driven_bibliography(alloc, bibliography)?),
-        None => None,
+        Some(bibliography) if lists_items => Some(driven_bibliography(alloc, bibliography)?),
+        _ => None,
     };
     Ok(driven::IndependentStyle {
         info: driven::StyleInfo {
@@ -49,7 +40,7 @@ pub(crate) fn driven_style(
         default_locale: None,
         locale: Vec::new(alloc),
         macros: Vec::new(alloc),
-        citation: driven_citation(alloc, &style.citation, shrinking)?,
+        citation: driven_citation(alloc, &style.citation)?,
         bibliography,
     })
 }
@@ -74,25 +65,12 @@ const UNFORMATTED: StyleFormatting = StyleFormatting {
     vertical_align: None,
 };
 
-/// What stands between the cites of a group where a style collapses their years, and doesn't tell.
-const GROUP_DELIMITER: &str = ", ";
-
-fn driven_citation(
-    alloc: Global,
-    citation: &Citation,
-    shrinking: Shrinking,
-) -> Result<driven::Citation, AllocError> {
+/// The options of citations. Between the suffixes of a year stands what stands in a group, if a
+/// style doesn't tell.
+fn driven_citation(alloc: Global, citation: &Citation) -> Result<driven::Citation, AllocError> {
     let options = &citation.options;
-    let collapse = match shrinking {
-        Shrinking::AsTheStyle => options.collapse,
-        Shrinking::Never => None,
-    };
-    let collapses_years = match collapse {
-        Some(Collapse::Year | Collapse::YearSuffix | Collapse::YearSuffixRanged) => true,
-        Some(Collapse::CitationNumber) | None => false,
-    };
-    let group_delimiter = group_delimiter(options, shrinking, collapses_years);
-    let suffix_delimiter = suffix_delimiter(citation, collapses_years);
+    let group_delimiter = options.cite_group_delimiter.as_deref();
+    let suffix_delimiter = options.year_suffix_delimiter.as_deref().or(group_delimiter);
     Ok(driven::Citation {
         layout: citation_layout(alloc, &citation.layout)?,
         disambiguate_add_givenname: options.disambiguate_add_given_name,
@@ -102,40 +80,10 @@ fn driven_citation(
         cite_group_delimiter: copied(alloc, group_delimiter)?,
         year_suffix_delimiter: copied(alloc, suffix_delimiter)?,
         after_collapse_delimiter: copied(alloc, options.after_collapse_delimiter.as_deref())?,
-        collapse: collapse.map(collapse_of),
+        collapse: options.collapse.map(collapse_of),
         near_note_distance: options.near_note_distance as usize,
         name_options: NO_OPTIONS,
     })
-}
-
-/// What stands between the cites of a group.
-fn group_delimiter(
-    options: &CitationOptions,
-    shrinking: Shrinking,
-    collapses_years: bool,
-) -> Option<&str> {
-    if shrinking == Shrinking::Never {
-        return None;
-    }
-    match &options.cite_group_delimiter {
-        Some(delimiter) => Some(delimiter.as_str()),
-        None if collapses_years => Some(GROUP_DELIMITER),
-        None => None,
-    }
-}
-
-/// What stands between the suffixes of a year.
-fn suffix_delimiter(citation: &Citation, collapses_years: bool) -> Option<&str> {
-    if let Some(delimiter) = &citation.options.year_suffix_delimiter {
-        return Some(delimiter.as_str());
-    }
-    if !collapses_years {
-        return None;
-    }
-    match &citation.options.cite_group_delimiter {
-        Some(delimiter) => Some(delimiter.as_str()),
-        None => Some(citation.layout.delimiter.as_str()),
-    }
 }
 
 /// The layout of a citation, of which the driver writes the delimiter.
@@ -208,8 +156,8 @@ fn collapse_of(collapse: Collapse) -> driven::Collapse {
     match collapse {
         Collapse::CitationNumber => driven::Collapse::CitationNumber,
         Collapse::Year => driven::Collapse::Year,
-        // the ranges are the host's
-        Collapse::YearSuffix | Collapse::YearSuffixRanged => driven::Collapse::YearSuffix,
+        Collapse::YearSuffix => driven::Collapse::YearSuffix,
+        Collapse::YearSuffixRanged => driven::Collapse::YearSuffixRanged,
     }
 }
 

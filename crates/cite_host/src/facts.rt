@@ -19,8 +19,6 @@ pub(crate) fn first_cite<'c>(
         disambiguates: false,
         year_suffix: None,
         name_forms: &[],
-        given_names: None,
-        tells_shown_persons: false,
         leaves_out_names: false,
         is_cut_to_suffix: false,
     }

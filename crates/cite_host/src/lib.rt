@@ -16,6 +16,5 @@ mod requests;
 mod setting;
 mod sorting;
 mod standing;
-mod states;
 mod wording;
 mod writer;

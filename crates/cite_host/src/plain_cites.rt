@@ -1,13 +1,13 @@
 //! Cites of which the same is written: that is done once.
 use crate::writer::{Asked, TaskWriter};
 use cite_walk::cite::Repetition;
-use csl_lookup::purpose::CitePurpose;
-use csl_lookup::state::{CollapseVerdict, DisambiguateState};
+use csl_lookup::means::Means;
+use csl_lookup::state::CollapseVerdict;
 use csl_writers::cite::Cite;
 use std::alloc::AllocError;
 use style_file::style::StyleClass;
 
-/// All that the text of a cite depends on that has neither a locator nor words around it.
+/// All that the text of a cite depends on that has no locator, and stands apart from none.
 #[derive(PartialEq, Eq, Hash, Drop)]
 pub(crate) struct PlainCite {
     /// The place of its item.
@@ -16,11 +16,8 @@ pub(crate) struct PlainCite {
     number: usize,
     standing: CiteStanding,
     repetition: Option<Repetition>,
-    /// Whether the condition `disambiguate` holds.
-    disambiguates: bool,
-    year_suffix: Option<usize>,
-    state: DisambiguateState,
-    purpose: Option<CitePurpose>,
+    /// By what means its item is told from others.
+    means: Means,
     verdict: Option<CollapseVerdict>,
     /// Whether it begins a note.
     begins_note: bool,
@@ -34,19 +31,11 @@ struct CiteStanding {
     first_note_number: Option<usize>,
 }
 
-/// What was written of a plain cite.
-#[derive(Drop)]
-pub(crate) struct KnownCite {
-    pub cite: Cite,
-    /// Whether it was noted how it reads, as of a cite that is compared.
-    pub is_noted: bool,
-}
-
 impl<'s, 'i, 'd> TaskWriter<'s, 'i, 'd> {
-    /// All that the text of a cite depends on; none where it has a locator or words around it.
+    /// All that the text of a cite depends on; none where it has a locator, or stands apart.
     pub(crate) fn plain_cite(&self, asked: Asked<'_>) -> Result<Option<PlainCite>, AllocError> {
         if let Some(cite) = self.shown_cite(asked) {
-            if cite.locator.is_some() || !cite.is_plain() {
+            if cite.locator.is_some() || cite.apart().is_some() {
                 return Ok(None);
             }
         }
@@ -58,10 +47,7 @@ impl<'s, 'i, 'd> TaskWriter<'s, 'i, 'd> {
             number: facts.number,
             standing: self.asked_standing(asked),
             repetition: facts.repetition,
-            disambiguates: facts.disambiguates,
-            year_suffix: facts.year_suffix,
-            state: asked.standing.disambiguation.clone()?,
-            purpose: asked.purpose,
+            means: asked.standing.means.clone()?,
             verdict: asked.verdict,
             begins_note: self.begins_note(asked),
         }))
@@ -87,23 +73,20 @@ impl<'s, 'i, 'd> TaskWriter<'s, 'i, 'd> {
         }
     }
 
-    /// What was written of an equal cite. One that is compared has to have been noted.
-    pub(crate) fn known(
-        &self,
-        asked: Asked<'_>,
-        plain: &PlainCite,
-    ) -> Result<Option<Cite>, AllocError> {
-        match self.written.get(plain) {
-            Some(known) if known.is_noted || asked.shown.is_some() => {
-                Ok(Some(copied(&known.cite)?))
-            }
-            _ => Ok(None),
+    /// What was written of an equal cite.
+    pub(crate) fn known(&self, plain: &PlainCite) -> Result<Option<Cite>, AllocError> {
+        let Some(place) = self.plain_cites.get(plain) else {
+            return Ok(None);
+        };
+        match self.table.get_index(*place) {
+            Some((_, cite)) => Ok(Some(copied(cite)?)),
+            None => Ok(None),
         }
     }
 }
 
 /// A copy of a cite.
-pub(crate) fn copied(cite: &Cite) -> Result<Cite, AllocError> {
+fn copied(cite: &Cite) -> Result<Cite, AllocError> {
     let first_name = match &cite.first_name {
         Some(names) => Some(names.clone()?),
         None => None,

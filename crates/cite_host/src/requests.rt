@@ -3,7 +3,7 @@ use crate::cites::Cite;
 use crate::entries::Items;
 use crate::sorting::SortedCitation;
 use csl_base::entry::PlainEntry;
-use csl_base::style::{Collapse, IndependentStyle};
+use csl_base::style::IndependentStyle;
 use csl_base::taxonomy::Locator;
 use csl_driver::driver::BibliographyDriver;
 use csl_driver::item::CitationItem;
@@ -16,14 +16,6 @@ use std::convert::Infallible;
 
 /// The driver of a host's documents.
 pub(crate) type Driver<'e> = BibliographyDriver<'e, PlainEntry, Infallible>;
-
-/// The styles of a document.
-#[derive(Clone, Copy)]
-pub(crate) struct DrivenStyles<'e> {
-    pub usual: &'e IndependentStyle,
-    /// For citations whose cites have words of their own around them.
-    pub apart: &'e IndependentStyle,
-}
 
 /// The locators of the cites of each citation, as the driver compares them.
 pub(crate) type DrivenLocators = Vec<Vec<Option<(Locator, String)>>>;
@@ -82,7 +74,7 @@ fn known_kind(kind: LocatorType) -> Option<Locator> {
 /// A driver that has taken the citations.
 pub(crate) fn filled_driver<'e>(
     alloc: Global,
-    styles: DrivenStyles<'e>,
+    style: &'e IndependentStyle,
     items: &'e Items<'_>,
     citations: &[SortedCitation<'_>],
     locators: &'e DrivenLocators,
@@ -90,7 +82,6 @@ pub(crate) fn filled_driver<'e>(
     let mut driver = BibliographyDriver::new(alloc);
     for (citation, locators) in citations.iter().zip(locators) {
         let cites = cites_of(alloc, items, citation, locators)?;
-        let style = style_for(styles, citation);
         let request = CitationRequest::new(cites, style, None, &[], Some(citation.note));
         if driver.citation(request).is_err() {
             return Err(AllocError);
@@ -116,15 +107,6 @@ fn cites_of<'e>(
     Ok(cites)
 }
 
-/// The style of a citation.
-fn style_for<'e>(styles: DrivenStyles<'e>, citation: &SortedCitation<'_>) -> &'e IndependentStyle {
-    if stands_together(citation, styles.usual) {
-        styles.usual
-    } else {
-        styles.apart
-    }
-}
-
 /// A request for a bibliography in the order of these entries.
 pub(crate) fn bibliography_request<'o, 'e>(
     style: &'o IndependentStyle,
@@ -135,18 +117,6 @@ pub(crate) fn bibliography_request<'o, 'e>(
 
 fn order_of<'o, 'e>(entries: &'o [&'e PlainEntry]) -> Option<Order<'o, 'e, PlainEntry>> {
     Some(Order(entries))
-}
-
-/// Whether the style may group and collapse the cites of a citation. Numbers with locators are
-/// not collapsed.
-fn stands_together(citation: &SortedCitation<'_>, style: &IndependentStyle) -> bool {
-    let collapses_numbers = style.citation.collapse == Some(Collapse::CitationNumber);
-    for cite in &citation.cites {
-        if !cite.is_plain() || (collapses_numbers && cite.locator.is_some()) {
-            return false;
-        }
-    }
-    true
 }
 
 fn item_of<'e>(
@@ -163,5 +133,9 @@ fn item_of<'e>(
     } else {
         None
     };
-    CitationItem::new(entry, locator, None, cite.is_hidden, purpose)
+    let item = CitationItem::new(entry, locator, None, cite.is_hidden, purpose);
+    match cite.apart() {
+        Some(apart) => item.apart(apart),
+        None => item,
+    }
 }

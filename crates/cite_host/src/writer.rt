@@ -1,18 +1,15 @@
 //! What the driver asks for is written.
 use crate::entries::Items;
-use crate::joining::ShownSuffix;
-use crate::plain_cites::{KnownCite, PlainCite, copied};
+use crate::plain_cites::PlainCite;
 use crate::setting::Setting;
 use crate::sorting::SortedCitation;
-use crate::states::{ShownStates, ToShow};
 use crate::wording::{begins_sentence, names_alone, with_affixes, with_capital_term};
 use cite_pieces::formatting::TextFormatting;
 use cite_pieces::output::{AffixPlace, Element, written};
 use cite_pieces::pieces::Pieces;
-use cite_pieces::plain::plain_text;
 use cite_pieces::punctuation::punctuated;
 use cite_trees::trees::tree_of;
-use cite_walk::cite::{GivenNames, WrittenCite};
+use cite_walk::cite::WrittenCite;
 use cite_walk::walk::write_cite;
 use csl_base::elem::ElemChildren;
 use csl_base::names::NameDisambiguationProperties;
@@ -21,8 +18,10 @@ use csl_lookup::purpose::CitePurpose;
 use csl_lookup::state::{CollapseVerdict, IdentifierUsage};
 use csl_writers::cite as driver;
 use host_table::key::{Standing, TaskKey, TaskPart};
+use host_table::table::Table;
 use indexmap::{IndexMap, IndexSet};
 use std::alloc::{AllocError, Global};
+use std::mem::replace;
 use style_file::sections::Layout;
 use style_file::style::StyleClass;
 
@@ -33,14 +32,10 @@ pub(crate) struct TaskWriter<'s, 'i, 'd> {
     pub setting: Setting<'s>,
     pub items: &'i Items<'d>,
     pub citations: &'i [SortedCitation<'d>],
-    pub given_names: Option<GivenNames>,
-    pub states: ShownStates,
-    /// The suffixes that the cites show, by their places.
-    pub suffixes: Vec<Vec<Option<ShownSuffix>>>,
-    /// What was written of cites that have neither locators nor words around them.
-    pub written: IndexMap<PlainCite, KnownCite>,
-    /// Whether items of the bibliography are written.
-    pub lists_items: bool,
+    /// What is written.
+    pub table: Table,
+    /// Of plain cites, where in the table stands what is written of them.
+    pub plain_cites: IndexMap<PlainCite, usize>,
 }
 
 /// A cite that is asked for.
@@ -56,45 +51,21 @@ pub(crate) struct Asked<'k> {
 }
 
 impl<'s, 'i, 'd> TaskWriter<'s, 'i, 'd> {
-    /// Settles the states of works by all that is missing.
+    /// Writes what is missing into the table.
     ///
     /// # Errors
     ///
     /// Where memory is refused.
-    pub fn settle(&mut self, missing: &IndexSet<TaskKey>) -> Result<(), AllocError> {
-        let mut works = Vec::new(self.alloc);
-        for key in missing.iter() {
-            if let Some(work) = self.work_of(key)? {
-                works.push(work)?;
-            }
+    pub fn fill(&mut self, missing: IndexSet<TaskKey>) -> Result<(), AllocError> {
+        for key in missing {
+            let cite = self.write(&key)?;
+            put(&mut self.table, key, cite)?;
         }
-        if works.is_empty() {
-            return Ok(());
-        }
-        self.states.settle(works.as_slice())
+        Ok(())
     }
 
-    /// The work of a cite that is written for the last time.
-    fn work_of(&self, key: &TaskKey) -> Result<Option<ToShow>, AllocError> {
-        if key.place.is_none() {
-            return Ok(None);
-        }
-        let TaskPart::Cite(standing, _, _) = &key.part else {
-            return Ok(None);
-        };
-        let Some(place) = self.items.place(key.entry.as_str()) else {
-            return Ok(None);
-        };
-        let state = standing.disambiguation.clone()?;
-        Ok(Some(ToShow { place, state }))
-    }
-
-    /// Writes a task.
-    ///
-    /// # Errors
-    ///
-    /// Where memory is refused.
-    pub fn write(&mut self, key: &TaskKey) -> Result<driver::Cite, AllocError> {
+    /// Writes a task that is to stand behind all others of the table.
+    fn write(&mut self, key: &TaskKey) -> Result<driver::Cite, AllocError> {
         let Some(item) = self.items.place(key.entry.as_str()) else {
             return Ok(nothing(self.alloc));
         };
@@ -111,88 +82,31 @@ impl<'s, 'i, 'd> TaskWriter<'s, 'i, 'd> {
         }
     }
 
-    /// Writes a cite; one of which the same was written isn't written again.
+    /// Writes a cite; a plain one of which the same was written isn't written again.
     fn write_cite(&mut self, asked: Asked<'_>) -> Result<driver::Cite, AllocError> {
-        self.note_suffix(asked);
         let Some(plain) = self.plain_cite(asked)? else {
             return self.write_anew(asked);
         };
-        if let Some(cite) = self.known(asked, &plain)? {
+        if let Some(cite) = self.known(&plain)? {
             return Ok(cite);
         }
         let cite = self.write_anew(asked)?;
-        let known = KnownCite {
-            cite: copied(&cite)?,
-            is_noted: asked.shown.is_none(),
-        };
-        self.written.insert(plain, known)?;
+        let place = self.table.len();
+        self.plain_cites.insert(plain, place)?;
         Ok(cite)
     }
 
-    fn write_anew(&mut self, asked: Asked<'_>) -> Result<driver::Cite, AllocError> {
-        let Some(cite) = self.cite_by_layout(asked)? else {
+    /// Writes a cite by the layout, with the words that stand around it.
+    fn write_anew(&self, asked: Asked<'_>) -> Result<driver::Cite, AllocError> {
+        let Some(facts) = self.cite_facts(asked) else {
             return Ok(nothing(self.alloc));
         };
-        let WrittenCite {
-            pieces,
-            names,
-            first_forms,
-            has_tested_disambiguate,
-            usage,
-        } = cite;
+        let mut cite = write_cite(self.alloc, self.setting.cite_scene(), facts)?;
+        let pieces = replace(&mut cite.pieces, Pieces::new(self.alloc));
         let pieces = for_purpose(self.alloc, asked.purpose, pieces)?;
-        self.note_text(asked, &pieces)?;
-        let pieces = self.worded(asked, pieces)?;
-        let cite = WrittenCite {
-            pieces,
-            names,
-            first_forms,
-            has_tested_disambiguate,
-            usage,
-        };
+        cite.pieces = self.worded(asked, pieces)?;
         let formatting = self.setting.style.citation.layout.formatting;
         self.told(cite, TextFormatting::NORMAL.with(formatting))
-    }
-
-    /// A cite as the layout writes it.
-    fn cite_by_layout(&self, asked: Asked<'_>) -> Result<Option<WrittenCite>, AllocError> {
-        match self.cite_facts(asked) {
-            Some(facts) => {
-                let scene = self.setting.cite_scene();
-                Ok(Some(write_cite(self.alloc, scene, facts)?))
-            }
-            None => Ok(None),
-        }
-    }
-
-    /// Notes how a cite reads that is compared.
-    fn note_text(&mut self, asked: Asked<'_>, pieces: &Pieces) -> Result<(), AllocError> {
-        if asked.shown.is_some() {
-            return Ok(());
-        }
-        let text = plain_text(self.alloc, pieces, self.setting.locale.quote_marks())?;
-        self.states
-            .note(asked.item, &asked.standing.disambiguation, text)
-    }
-
-    /// Notes the suffix that a cite shows which is written for the last time, unless it has a
-    /// locator.
-    fn note_suffix(&mut self, asked: Asked<'_>) {
-        let Some((citation, cite)) = asked.shown else {
-            return;
-        };
-        let Some(suffix) = self.year_suffix(true, asked.item, asked.standing) else {
-            return;
-        };
-        if self.has_locator(asked) {
-            return;
-        }
-        let is_cut = asked.verdict == Some(CollapseVerdict::YearSuffix);
-        if let Some(suffixes) = self.suffixes.get_mut(citation) {
-            if let Some(shown) = suffixes.get_mut(cite) {
-                *shown = Some(ShownSuffix { suffix, is_cut });
-            }
-        }
     }
 
     /// A cite with the words that stand around it where it is shown.
@@ -229,26 +143,10 @@ impl<'s, 'i, 'd> TaskWriter<'s, 'i, 'd> {
         let Some(bibliography) = self.setting.bibliography() else {
             return Ok(nothing(self.alloc));
         };
-        if !self.lists_items {
-            return Ok(nothing(self.alloc));
-        }
-        let scene = self.setting.item_scene(bibliography);
-        let WrittenCite {
-            pieces,
-            names,
-            first_forms,
-            has_tested_disambiguate,
-            usage,
-        } = write_cite(self.alloc, scene, facts)?;
-        let pieces = self.in_layout(&bibliography.section.layout, pieces)?;
-        let item = WrittenCite {
-            pieces,
-            names,
-            first_forms,
-            has_tested_disambiguate,
-            usage,
-        };
-        self.told(item, TextFormatting::NORMAL)
+        let mut listed = write_cite(self.alloc, self.setting.item_scene(bibliography), facts)?;
+        let pieces = replace(&mut listed.pieces, Pieces::new(self.alloc));
+        listed.pieces = self.in_layout(&bibliography.section.layout, pieces)?;
+        self.told(listed, TextFormatting::NORMAL)
     }
 
     /// An item in the formatting and the affixes of its layout, where it has text.
@@ -290,6 +188,12 @@ impl<'s, 'i, 'd> TaskWriter<'s, 'i, 'd> {
             identifier_usage: usage,
         })
     }
+}
+
+/// Puts what was written into the table.
+fn put(table: &mut Table, key: TaskKey, cite: driver::Cite) -> Result<(), AllocError> {
+    table.insert(key, cite)?;
+    Ok(())
 }
 
 /// What of a cite is shown for a purpose.

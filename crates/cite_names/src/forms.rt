@@ -59,25 +59,6 @@ pub fn raise(forms: &mut Vec<DisambiguatedNameForm>, wanted: &[DisambiguatedName
     }
 }
 
-/// Raises the forms of names that are written, while those that are counted stay so.
-pub fn raise_written(forms: &mut Vec<DisambiguatedNameForm>, wanted: &[DisambiguatedNameForm]) {
-    for (form, other) in forms.iter_mut().zip(wanted) {
-        if *form != DisambiguatedNameForm::Count && *form < *other {
-            *form = *other;
-        }
-    }
-}
-
-/// Names before one that is written are written too.
-pub fn fill_up(forms: &mut Vec<DisambiguatedNameForm>) {
-    let written = written_names(forms.as_slice());
-    for (place, form) in forms.iter_mut().enumerate() {
-        if place < written && *form == DisambiguatedNameForm::Count {
-            *form = DisambiguatedNameForm::Short;
-        }
-    }
-}
-
 /// How many names there are up to the last one that is written.
 pub fn written_names(forms: &[DisambiguatedNameForm]) -> usize {
     let mut written = 0;

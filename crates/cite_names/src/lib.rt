@@ -2,7 +2,6 @@
 #![tactic(auto)]
 
 pub mod forms;
-pub mod given;
 pub mod list;
 pub mod parts;
 pub mod person;

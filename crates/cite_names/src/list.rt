@@ -31,8 +31,6 @@ pub struct NameList<'s, 'l> {
     /// The formatting of what stands for names that are cut.
     pub et_al_formatting: Option<Formatting>,
     pub variable: NameVariable,
-    /// Whether all names with what stands between them are marked as one.
-    pub is_one_name: bool,
 }
 
 impl<'s> NameList<'s, '_> {
@@ -49,7 +47,6 @@ impl<'s> NameList<'s, '_> {
         forms: &[DisambiguatedNameForm],
     ) -> Result<(), AllocError> {
         let written = written_names(forms);
-        output.open(self.name_element(self.is_one_name, 0))?;
         for (place, name) in names.iter().take(written).enumerate() {
             if place > 0 {
                 self.push_between(output, names, place)?;
@@ -60,20 +57,7 @@ impl<'s> NameList<'s, '_> {
         if written > 0 && written < names.len() {
             self.push_cut(alloc, output, names, written)?;
         }
-        output.close()?;
         Ok(())
-    }
-
-    /// An element that marks a name, if it is to.
-    fn name_element(&self, is_marked: bool, place: usize) -> Element<'static> {
-        Element {
-            mark: if is_marked {
-                Some(Mark::Name(self.variable, place))
-            } else {
-                None
-            },
-            ..Element::PLAIN
-        }
     }
 
     /// Writes what stands before the name at this place, which isn't the first.
@@ -187,7 +171,10 @@ impl<'s> NameList<'s, '_> {
             Some(NameAsSortOrder::First) => place == 0 && may_be_inverted(name),
             None => false,
         };
-        output.open(self.name_element(!self.is_one_name, place))?;
+        output.open(Element {
+            mark: Some(Mark::Name(self.variable, place)),
+            ..Element::PLAIN
+        })?;
         for part in parts_of(alloc, &self.rules, name, form, is_inverted)? {
             self.push_part(alloc, output, &part)?;
         }

@@ -67,10 +67,6 @@ pub struct CiteFacts<'c> {
     pub year_suffix: Option<usize>,
     /// How far its first names are to be written at least.
     pub name_forms: &'c [DisambiguatedNameForm],
-    /// How far names are written that share a family name with others.
-    pub given_names: Option<&'c GivenNames>,
-    /// Whether the driver is told of the persons that are shown alone.
-    pub tells_shown_persons: bool,
     /// Whether its first names are left out.
     pub leaves_out_names: bool,
     /// Whether it is cut to the suffix of its year and its locator.
@@ -89,5 +85,3 @@ pub struct WrittenCite {
     pub has_tested_disambiguate: bool,
     pub usage: IdentifierUsage,
 }
-
-pub use cite_names::given::GivenNames;

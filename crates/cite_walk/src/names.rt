@@ -1,7 +1,7 @@
 //! Names (CSL 1.0.2, "Names").
 use crate::cite::SceneKind;
 use crate::walk::Walk;
-use cite_names::forms::{fill_up, own_forms, raise, raise_written, written_names};
+use cite_names::forms::{own_forms, raise, written_names};
 use cite_names::list::{NameList, NameWords};
 use cite_names::person::person_of;
 use cite_names::rules::{HandedDown, NameRules};
@@ -15,9 +15,8 @@ use csl_base::seq::Seq;
 use csl_references::name::Name;
 use csl_vocabulary::term::{PlainTerm, TermForm};
 use csl_vocabulary::variable::{NameVariable, Variable};
-use std::alloc::AllocError;
+use std::alloc::{AllocError, Global};
 use style_file::names::{EtAlTerm, LabelOptions, LabelPlural, LabelSide, NameForm};
-use style_file::sections::SubstituteRule;
 
 /// The names of a variable, and the term of their role.
 #[derive(Clone, Copy)]
@@ -145,7 +144,7 @@ impl<'s, 'c> Walk<'s, 'c> {
         blocks: &[Block<'c>],
     ) -> Result<(), AllocError> {
         let forms = self.forms_of_blocks(&rules, blocks)?;
-        let mark = Some(self.mark_of(blocks, &forms)?);
+        let mark = Some(self.mark_of(blocks)?);
         let is_one = blocks.len() == 1;
         let element = self.names_element(names);
         self.output.open(element)?;
@@ -219,7 +218,6 @@ impl<'s, 'c> Walk<'s, 'c> {
             },
             et_al_formatting: names.et_al.map(|et_al| et_al.formatting),
             variable: self.told_variable(block.variable),
-            is_one_name: self.replaces_all_names(),
         }
     }
 
@@ -229,16 +227,6 @@ impl<'s, 'c> Walk<'s, 'c> {
         match self.scene.kind {
             SceneKind::Item => NameVariable::Author,
             SceneKind::Cite | SceneKind::Key(_) => variable,
-        }
-    }
-
-    /// Whether repeated names are replaced at once, with what stands between them.
-    fn replaces_all_names(&self) -> bool {
-        match (self.scene.kind, &self.scene.style.bibliography) {
-            (SceneKind::Item, Some(bibliography)) => {
-                bibliography.options.substitute_rule == SubstituteRule::CompleteAll
-            }
-            _ => false,
         }
     }
 
@@ -285,7 +273,7 @@ impl<'s, 'c> Walk<'s, 'c> {
         }
     }
 
-    /// The form of each name of each block. Names before one that is written are written too.
+    /// The form of each name of each block.
     fn forms_of_blocks(
         &mut self,
         rules: &NameRules<'s>,
@@ -297,10 +285,8 @@ impl<'s, 'c> Walk<'s, 'c> {
         let mut begin = 0usize;
         for block in blocks {
             let end = begin.saturating_add(block.names.len()).min(forms.len());
-            let mut own = forms.get(begin..end).unwrap_or(&[]).to_vec(alloc)?;
+            apart.push(forms.get(begin..end).unwrap_or(&[]).to_vec(alloc)?)?;
             begin = end;
-            fill_up(&mut own);
-            apart.push(own)?;
         }
         Ok(apart)
     }
@@ -322,55 +308,33 @@ impl<'s, 'c> Walk<'s, 'c> {
         if self.first_forms.is_some() {
             return Ok(forms);
         }
-        let least = self.least_forms(blocks)?;
-        raise_written(&mut forms, least.as_slice());
         self.first_forms = Some(forms.clone()?);
         raise(&mut forms, self.cite.name_forms);
-        raise_written(&mut forms, least.as_slice());
         Ok(forms)
     }
 
-    /// The forms that tell the persons from others of the same family name.
-    fn least_forms(&self, blocks: &[Block<'c>]) -> Result<Vec<DisambiguatedNameForm>, AllocError> {
-        let alloc = self.alloc();
-        let Some(given_names) = self.cite.given_names else {
-            return Ok(Vec::new(alloc));
-        };
-        let mut persons: Vec<Person> = Vec::new(alloc);
-        for block in blocks {
-            for name in block.names {
-                persons.push(person_of(alloc, name)?)?;
-            }
-        }
-        given_names.forms(alloc, persons.as_slice())
-    }
-
     /// A mark for these names, whose persons are kept.
-    fn mark_of(
-        &mut self,
-        blocks: &[Block<'c>],
-        forms: &[Vec<DisambiguatedNameForm>],
-    ) -> Result<Mark, AllocError> {
+    fn mark_of(&mut self, blocks: &[Block<'c>]) -> Result<Mark, AllocError> {
         let alloc = self.alloc();
         let mut named = Vec::new(alloc);
-        for (block, own) in blocks.iter().zip(forms) {
-            let mut persons = Vec::new(alloc);
-            for (name, form) in block.names.iter().zip(own) {
-                let is_shown = *form != DisambiguatedNameForm::Count;
-                if is_shown || !self.cite.tells_shown_persons {
-                    persons.push(person_of(alloc, name)?)?;
-                }
-            }
-            named.push((
-                Seq::new(persons),
-                tree_variable(self.told_variable(block.variable)),
-            ))?;
+        for block in blocks {
+            let variable = tree_variable(self.told_variable(block.variable));
+            named.push((persons_of(alloc, block.names)?, variable))?;
         }
         let place = self.names.len();
         let named: NamedPersons = Seq::new(named);
         self.names.push(named)?;
         Ok(Mark::Names(place))
     }
+}
+
+/// The persons of these names.
+fn persons_of(alloc: Global, names: &[Name]) -> Result<Seq<Person>, AllocError> {
+    let mut persons = Vec::new(alloc);
+    for name in names {
+        persons.push(person_of(alloc, name)?)?;
+    }
+    Ok(Seq::new(persons))
 }
 
 /// Whether these are the same persons as editors and as translators.

@@ -11,7 +11,7 @@ use csl_base::names::DisambiguatedNameForm;
 use csl_base::seq::Seq;
 use csl_lookup::state::IdentifierUsage;
 use csl_texts::cases::Language;
-use csl_vocabulary::variable::{NumberVariable, TextVariable, Variable};
+use csl_vocabulary::variable::{NameVariable, NumberVariable, TextVariable, Variable};
 use std::alloc::{AllocError, Global};
 use style_file::element::{Group, Text};
 
@@ -243,21 +243,21 @@ impl<'s, 'c> Walk<'s, 'c> {
         Ok(())
     }
 
-    /// Opens an element that may stand in for names. In an item it counts as names, which are
-    /// replaced where they repeat those of the item before.
+    /// Opens an element that may stand in for names. In an item it counts as a name of nobody, and
+    /// is replaced where it repeats.
     fn open_substitute(&mut self) -> Result<(), AllocError> {
         let inside = self.scene.program.steps.get(self.here.saturating_add(1));
         let is_names = matches!(inside, Some(Step::Names { .. }));
         if is_names || !matches!(self.scene.kind, SceneKind::Item) {
-            return self.open(Element::PLAIN);
+            self.open(Element::PLAIN)?;
+            return self.output.open(Element::PLAIN);
         }
         let alloc = self.alloc();
         let mark = Mark::Names(self.names.len());
         self.names.push(Seq::new(Vec::new(alloc)))?;
-        self.open(Element {
-            mark: Some(mark),
-            ..Element::PLAIN
-        })
+        self.open(marked(mark))?;
+        self.output
+            .open(marked(Mark::Name(NameVariable::Author, 0)))
     }
 
     /// Closes an element that may stand in for names. Where it has text, its variables are written
@@ -265,6 +265,7 @@ impl<'s, 'c> Walk<'s, 'c> {
     fn close_substitute(&mut self, names_at: usize) -> Result<(), AllocError> {
         let frame = self.frames.pop().unwrap_or(Frame::NEW);
         self.add(frame);
+        self.output.close()?;
         if !self.output.close()? {
             return Ok(());
         }
@@ -274,6 +275,13 @@ impl<'s, 'c> Walk<'s, 'c> {
         self.call(true);
         self.next = self.scene.program.end_of(names_at);
         Ok(())
+    }
+}
+
+fn marked(mark: Mark) -> Element<'static> {
+    Element {
+        mark: Some(mark),
+        ..Element::PLAIN
     }
 }
 

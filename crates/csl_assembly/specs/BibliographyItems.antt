@@ -45,21 +45,29 @@ abbrev pub bibliography_tasks : {E P : Type 0} → Source → List (ItemRender E
     → List (TaskValue E P)
 bibliography_tasks source firsts = map (λ i. item_task (item_of source i)) firsts
 
-module _ {E P : Type 0} (writing : Writing E P) (source : Source) where
-  -- the entry of a cite as the bibliography writes it by what holds of the cite, and its key
-  abbrev pub written_item : ItemRender E P → Item
-  written_item i =
-      (simplified (unwrap_or (writing.item (item_of source i)) []), (writing.answers i.entry).key)
+-- the bibliography of a style that has these items
+abbrev pub bibliography_with : BibliographyValue → List Item → RenderedBibliography
+bibliography_with bibliography items = record {
+  hanging_indent = bibliography.hanging_indent;
+  second_field_align = bibliography.second_field_align;
+  line_spacing = bibliography.line_spacing;
+  entry_spacing = bibliography.entry_spacing;
+  items = map (with_first_field (is_some bibliography.second_field_align)) items;
+}
 
-  -- the bibliography, where these are the first cites of its entries, in its order
-  abbrev pub bibliography_of : BibliographyValue → List (ItemRender E P) → RenderedBibliography
-  bibliography_of bibliography firsts = record {
-    hanging_indent = bibliography.hanging_indent;
-    second_field_align = bibliography.second_field_align;
-    line_spacing = bibliography.line_spacing;
-    entry_spacing = bibliography.entry_spacing;
-    items = map (with_first_field (is_some bibliography.second_field_align))
+module _ {E P : Type 0} (writing : Writing E P) where
+  -- an item of the bibliography as it is written, and its key
+  abbrev pub item_by : ItemTaskValue E P → Item
+  item_by t = (simplified (unwrap_or (writing.item t) []), (writing.answers t.entry).key)
+
+  module _ (source : Source) where
+    -- the entry of a cite as the bibliography writes it by what holds of the cite, and its key
+    abbrev pub written_item : ItemRender E P → Item
+    written_item i = item_by (item_of source i)
+
+    -- the bibliography, where these are the first cites of its entries, in its order
+    abbrev pub bibliography_of : BibliographyValue → List (ItemRender E P) → RenderedBibliography
+    bibliography_of bibliography firsts = bibliography_with bibliography
         (substituted bibliography.subsequent_author_substitute
         bibliography.subsequent_author_substitute_rule
-        (map written_item firsts));
-  }
+        (map written_item firsts))

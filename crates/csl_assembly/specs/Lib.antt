@@ -4,3 +4,5 @@ pub mod CitationTree
 pub mod ShownView
 pub mod ChildOf
 pub mod BibliographyItems
+pub mod WithoutEmpty
+pub mod ByMeans

@@ -15,7 +15,9 @@ ghost use Rattle.csl_assembly.specs.ChildOf.{child_of};
 ghost use Rattle.csl_assembly.specs.BibliographyItems.{
   bibliography_of,
   bibliography_tasks,
+  bibliography_with,
   cites_at,
+  item_by,
   item_of,
   unlocated,
   with_first_field,
@@ -86,6 +88,30 @@ fn tree_by_properties<T: EntryLike, P, W: CiteWriter<T, P>>(
     asking::written_item(alloc, task, writer, counter)
 }
 
+/// The entry of a cite as the bibliography writes it by these properties, and its key.
+pub(crate) fn item_by_properties<T: EntryLike, P, W: CiteWriter<T, P>>(
+    alloc: Global,
+    wanted: AcyclicBibliographyRequest<'_, '_, '_, T>,
+    first: &SpeculativeItemRender<'_, T, P>,
+    properties: &CiteProperties<'_, P>,
+    writer: &mut W,
+    counter: &mut Renders,
+) -> Result<(ElemChildren, String), W::Error>
+    ensures item { let task = record (item_of (wanted_source (wanted_view wanted.entry.wanted.now))
+        (item_view first.now)) { properties = properties_view properties.now } in
+        IfOk result (λ item. (item.0, string_bytes item.1)
+        ≡ item_by (writing_of T.answers (W.state writer.old)) task) }
+    ensures asked { let task = record (item_of (wanted_source (wanted_view wanted.entry.wanted.now))
+        (item_view first.now)) { properties = properties_view properties.now } in
+        OnOk result (desk (W.state writer.new) counter.new
+        ≡ after (item_task task ∷ []) (desk (W.state writer.old) counter.old)) }
+{
+    let text = tree_by_properties(alloc, wanted, first, properties, writer, counter)?;
+    let mut content = text.unwrap_or(ElemChildren::new(alloc));
+    content.simplify_children()?;
+    Ok((content, String::from_str(alloc, first.entry.key())?))
+}
+
 /// The entry of a cite as the bibliography writes it, and its key.
 fn written_item<T: EntryLike, P: Drop, W: CiteWriter<T, P>>(
     alloc: Global,
@@ -103,14 +129,11 @@ fn written_item<T: EntryLike, P: Drop, W: CiteWriter<T, P>>(
         (desk (W.state writer.old) counter.old)) }
 {
     let properties = unlocated(first)?;
-    let text = tree_by_properties(alloc, wanted, first, &properties, writer, counter)?;
-    let mut content = text.unwrap_or(ElemChildren::new(alloc));
-    content.simplify_children()?;
-    Ok((content, String::from_str(alloc, first.entry.key())?))
+    item_by_properties(alloc, wanted, first, &properties, writer, counter)
 }
 
 /// The cite at a place, if one stands there.
-fn cite_at<'c, 'a, T, P>(
+pub(crate) fn cite_at<'c, 'a, T, P>(
     cites: &'c [SpeculativeCiteRender<'_, 'a, T, P>],
     place: (usize, usize),
 ) -> Option<&'c SpeculativeItemRender<'a, T, P>>
@@ -194,6 +217,26 @@ fn with_first_fields(
     Ok(finished)
 }
 
+/// The bibliography of a style that has these items, each with its first field apart where second
+/// fields are aligned.
+pub(crate) fn bibliography_with(
+    alloc: Global,
+    bibliography: &Bibliography,
+    items: Vec<(ElemChildren, String)>,
+) -> Result<RenderedBibliography, AllocError>
+    ensures { IfOk result (λ r. r ≡ bibliography_with (bibliography_view bibliography.now)
+        (rendered_items_view items.items)) }
+{
+    let aligned = bibliography.second_field_align.is_some();
+    Ok(RenderedBibliography {
+        hanging_indent: bibliography.hanging_indent,
+        second_field_align: bibliography.second_field_align,
+        line_spacing: bibliography.line_spacing,
+        entry_spacing: bibliography.entry_spacing,
+        items: Seq::new(with_first_fields(alloc, aligned, items)?),
+    })
+}
+
 /// The bibliography of a style: an item for each of the cites at these places, which are the first
 /// ones of its entries, in its order. Each is written by what holds of its cite, but without a
 /// locator; then names that it shares with one before it are substituted, and where second fields
@@ -223,12 +266,5 @@ pub fn bibliography_of<T: EntryLike, P: Drop, W: CiteWriter<T, P>>(
     let substitute = bibliography.subsequent_author_substitute.as_deref();
     let rule = bibliography.subsequent_author_substitute_rule;
     substitute_subsequent_authors(alloc, substitute, rule, &mut items)?;
-    let aligned = bibliography.second_field_align.is_some();
-    Ok(RenderedBibliography {
-        hanging_indent: bibliography.hanging_indent,
-        second_field_align: bibliography.second_field_align,
-        line_spacing: bibliography.line_spacing,
-        entry_spacing: bibliography.entry_spacing,
-        items: Seq::new(with_first_fields(alloc, aligned, items)?),
-    })
+    Ok(bibliography_with(alloc, bibliography, items)?)
 }

@@ -75,7 +75,7 @@ fn marked_cite<T: EntryLike, P: Drop, W: CiteWriter<T, P>>(
 }
 
 /// The shown cites, each with its tree and its delimiter. The others are written too.
-fn shown_cites<'a, T: EntryLike, P: Drop, W: CiteWriter<T, P>>(
+pub(crate) fn shown_cites<'a, T: EntryLike, P: Drop, W: CiteWriter<T, P>>(
     alloc: Global,
     request: AcyclicRequest<'_, 'a, T, P>,
     index: usize,

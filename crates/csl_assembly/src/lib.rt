@@ -4,7 +4,9 @@
 
 pub mod assemble;
 pub mod bibliography;
+pub mod by_means;
 pub mod citation;
 pub mod last_tree;
 pub mod laws;
 pub mod rendered;
+pub mod without_empty;

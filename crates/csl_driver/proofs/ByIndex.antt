@@ -7,7 +7,8 @@ use Rattle.std.proofs.lemmas.List.{map-append, take_more}
 use Rattle.csl_grouping.proofs.Entries.{enumerate-push}
 
 module _ {X : Type 0} (xs : List X) (k : ℕ) (x : X) (within : k < length xs) (here : x ≡ get_or xs k x) where
-  numbered-more : enumerate_from 0 (take (k + 1) xs) ≡ enumerate_from 0 (take k xs) ++ (k, x) ∷ []
+  -- the pairs of members and indexes
+  pub numbered-more : enumerate_from 0 (take (k + 1) xs) ≡ enumerate_from 0 (take k xs) ++ (k, x) ∷ []
   numbered-more =
       let long = length-take-le k xs (omega (arith, within)) in
       let last : 0 + length (take k xs) ≡ k = omega (arith, long) in

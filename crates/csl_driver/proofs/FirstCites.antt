@@ -21,7 +21,7 @@ module _ {E P : Type 0} (eq : E → E → Bool) (entries : List E) (cites : List
   abbrev pub first_of : ℕ → Option (ItemRender E P)
   first_of p = option_and_then (first_item eq cites) (slice_get entries p)
 
-  cite-item : (at : Place) → option_map (λ (c : Request E P × ItemRender E P). c.1) (cite_at cites at) ≡ item_at cites at
+  pub cite-item : (at : Place) → option_map (λ (c : Request E P × ItemRender E P). c.1) (cite_at cites at) ≡ item_at cites at
   cite-item at = by (slice_get cites at.0)
     where
       inner : (r : CiteRender E P) (o : Option (ItemRender E P)) → option_map (λ (c : Request E P × ItemRender E P). c.1) (option_map (λ i. (r.request, i)) o) ≡ o
@@ -48,14 +48,14 @@ module _ {E P : Type 0} (eq : E → E → Bool) (entries : List E) (cites : List
         by None h = cc
         by (Some e) h = ap (λ x. unwrap_or x (option_map (item_at cites) o)) h
 
-    none-first : None ≡ get_or firsts p None → first_of p ≡ None
+    pub none-first : None ≡ get_or firsts p None → first_of p ≡ None
     none-first here = by (first_of p) (noted None here)
       where
         by : (o : Option (ItemRender E P)) → None ≡ option_map Some o → o ≡ None
         by None h = refl
         by (Some i) h = cc
 
-    some-first : (at : Place) → Some at ≡ get_or firsts p (Some at) → (i : ItemRender E P) × (item_at cites at ≡ Some i) × (first_of p ≡ Some i)
+    pub some-first : (at : Place) → Some at ≡ get_or firsts p (Some at) → (i : ItemRender E P) × (item_at cites at ≡ Some i) × (first_of p ≡ Some i)
     some-first at here = by (first_of p) (noted (Some at) here)
       where
         by : (o : Option (ItemRender E P)) → Some (item_at cites at) ≡ option_map Some o → (i : ItemRender E P) × (item_at cites at ≡ Some i) × (o ≡ Some i)
@@ -108,14 +108,19 @@ module _ {E P : Type 0} (eq : E → E → Bool) (entries : List E) (cites : List
             let next : 1 + place eq e xs ≡ suc (place eq e xs) = omega arith in
             (found.0, ap (slice_get (x ∷ xs)) next ∙ found.1, found.2)
 
+    -- that of an entry is found by its place
+    pub own-first : (e : E) → is_in eq e entries ≡ true → first_of (place eq e entries) ≡ first_item eq cites e
+    own-first e inside =
+        let there = at-place entries e inside in
+        ap (option_and_then (first_item eq cites)) there.1 ∙ sym (same-first (items_finally cites) e there.0 there.2)
+
     -- those of entries that are listed by their places
     pub first-cites : (order : List E) → ((e : E) → is_in eq e order ≡ true → is_in eq e entries ≡ true)
         → filter_map first_of (map (λ e. place eq e entries) order) ≡ filter_map (first_item eq cites) order
     first-cites [] h = refl
     first-cites (e ∷ order) h =
         let own : is_in eq e (e ∷ order) ≡ true = rw (laws.refl e) refl in
-        let there = at-place entries e (h e own) in
-        rw (ap (option_and_then (first_item eq cites)) there.1 ∙ sym (same-first (items_finally cites) e there.0 there.2), first-cites order rest) refl
+        λ i. cons_option (own-first e (h e own) i) (first-cites order rest i)
       where
         rest : (d : E) → is_in eq d order ≡ true → is_in eq d entries ≡ true
         rest d inside = h d (or_right (eq d e) (is_in eq d order) inside)

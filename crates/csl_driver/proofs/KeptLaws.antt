@@ -1,5 +1,5 @@
 -- The laws of states, numbers, final orders and runs hold of every answer.
-use Rattle.std.proofs.Common.{◌≡◌, ℕ, zero, suc, ◌+◌, ◌-◌, ◌<◌, ◌^◌, ◌||◌, ◌++◌, Bool, true, false, List, [], ◌∷◌, Option, None, Some, length, map, refl, ap, sym, subst, ◌∙◌, arith}
+use Rattle.std.proofs.Common.{◌≡◌, ℕ, zero, suc, ◌+◌, ◌-◌, ◌<◌, ◌^◌, ◌++◌, Bool, true, false, List, [], ◌∷◌, Option, None, Some, length, map, refl, ap, sym, subst, ◌∙◌, arith}
 use Rattle.std.specs.Prelude.{All, if◌then◌else◌, min, slice_get, take}
 use Rattle.std.specs.Cmp.{IsEquivalence}
 use Rattle.std.specs.List.{AllZip, enumerate_from, range_with_len}
@@ -77,7 +77,7 @@ begins mode eq writing firsts (suc n) t = by (has_any (marks_at mode eq writing 
 
 -- the entries that are cited, in an order that has each of them once
 module _ {E : Type 0} (eq : E → E → Bool) (laws : IsEquivalence eq) where
-  numbered-once : (offset : ℕ) (ordered entries : List E) → NoTwoEqual eq ordered → NoTwoEqual eq entries → ((e : E) → is_in eq e ordered ≡ is_in eq e entries) → NumbersWithoutGaps eq offset ordered
+  pub numbered-once : (offset : ℕ) (ordered entries : List E) → NoTwoEqual eq ordered → NoTwoEqual eq entries → ((e : E) → is_in eq e ordered ≡ is_in eq e entries) → NumbersWithoutGaps eq offset ordered
       → HaveNumbersOnce eq offset entries (map (number eq offset ordered) entries)
   numbered-once offset ordered entries once each same in_order =
       let among : IsPermutation (map (number eq offset ordered) ordered) (map (number eq offset ordered) entries) =
@@ -127,7 +127,7 @@ module _ {E P : Type 0} (eq : E → E → Bool) (laws : IsEquivalence eq) (each_
       cited-there : (e : E) → is_in eq e finally ≡ true → is_in eq e entries ≡ true
       cited-there e within = is_in-distinct eq laws e (cited requests) ∙ sym (same e) ∙ sym (is_in-distinct eq laws e (cited_finally cites)) ∙ within
 
-      by-final-order : AreInOrder eq offset entries (map (number eq offset finally) entries) finally
+      pub by-final-order : AreInOrder eq offset entries (map (number eq offset finally) entries) finally
       by-final-order = in-its-order eq laws offset finally entries cited-there (gapless offset None (cited_finally cites))
 
       in-order : (order : Option (List E)) → order ≡ None → AreInOrder eq offset entries (map (number eq offset (numbered_finally eq order requests cites)) entries) finally

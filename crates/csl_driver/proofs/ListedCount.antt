@@ -1,11 +1,13 @@
 -- Each entry of the bibliography has a first cite.
-use Rattle.std.proofs.Common.{◌≡◌, suc, Bool, true, false, cond, ◌||◌, List, [], ◌∷◌, ◌++◌, Option, Some, None, length, map, refl, ap, sym, ◌∙◌}
+use Rattle.std.proofs.Common.{◌≡◌, ℕ, suc, ◌+◌, Bool, true, false, cond, ◌||◌, List, [], ◌∷◌, ◌++◌, Option, Some, None, length, map, refl, ap, sym, ◌∙◌}
 use Rattle.std.specs.Prelude.{All, find, is_some, option_map}
 use Rattle.std.specs.Cmp.{IsEquivalence}
-use Rattle.std.specs.List.{cons_option, filter_map}
+use Rattle.std.specs.List.{cons_option, enumerate_from, filter_map}
 use Rattle.std.proofs.lemmas.List.{map-append}
 use Rattle.std.proofs.lemmas.List.Elements.{All-cons, All-head, All-nil, All-tail}
+use Rattle.csl_assembly.specs.declared.by_means.ItemMeans.{ItemMeans}
 use Rattle.csl_driver.specs.AreCitesOf.{AreCitesOf}
+use Rattle.csl_driver.specs.CslAnswer.{listed_cites}
 use Rattle.csl_entries.specs.Entries.{bibliography_order, is_in}
 use Rattle.csl_entries.specs.Table.{Table, table_of}
 use Rattle.csl_entries.proofs.Distinct.{is_in-distinct}
@@ -22,6 +24,19 @@ all-found f [] h = refl
 all-found {A} {B} f (x ∷ xs) h = by (f x) (All-head (λ x. is_some (f x) ≡ true) x xs h) (all-found f xs (All-tail (λ x. is_some (f x) ≡ true) x xs h))
   where
     by : (o : Option B) → is_some o ≡ true → length (filter_map f xs) ≡ length xs → length (cons_option o (filter_map f xs)) ≡ suc (length xs)
+    by None e more = cc
+    by (Some y) e more = ap suc more
+
+-- the same, each with what its number gives
+numbered-found : {A B C : Type 0} (f : A → Option B) (g : ℕ → B → C) (n : ℕ) (xs : List A) → All (λ x. is_some (f x) ≡ true) xs
+    → length (filter_map (λ p. option_map (g p.0) (f p.1)) (enumerate_from n xs)) ≡ length xs
+numbered-found f g n [] h = refl
+numbered-found {A} {B} {C} f g n (x ∷ xs) h = by (f x) (All-head (λ x. is_some (f x) ≡ true) x xs h) (numbered-found f g (n + 1) xs (All-tail (λ x. is_some (f x) ≡ true) x xs h))
+  where
+    rest : List C
+    rest = filter_map (λ p. option_map (g p.0) (f p.1)) (enumerate_from (n + 1) xs)
+
+    by : (o : Option B) → is_some o ≡ true → length rest ≡ length xs → length (cons_option (option_map (g n) o) rest) ≡ suc (length xs)
     by None e more = cc
     by (Some y) e more = ap suc more
 
@@ -61,3 +76,7 @@ module _ {E P : Type 0} (eq : E → E → Bool) where
       -- there are as many first cites as entries
       pub firsts-counted : length (filter_map (first_item eq cites) listed) ≡ length listed
       firsts-counted = all-found (first_item eq cites) listed firsts-found
+
+      -- the same, each with means
+      pub means-counted : (means : ℕ → ItemMeans) → length (listed_cites eq means cites listed) ≡ length listed
+      means-counted means = numbered-found (first_item eq cites) (λ k i. (i, means k)) 0 listed firsts-found

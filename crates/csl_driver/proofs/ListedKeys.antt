@@ -1,6 +1,6 @@
 -- The bibliography lists each entry of the account once, and no other.
-use Rattle.std.proofs.Common.{◌≡◌, ℕ, suc, ◌+◌, Bool, true, false, ◌||◌, cond, List, [], ◌∷◌, Option, Some, None, length, map, refl, ap, sym, subst, ◌∙◌, true≢false}
-use Rattle.std.specs.Prelude.{All, IfSome, find, if◌then◌else◌, is_some, option_map}
+use Rattle.std.proofs.Common.{◌≡◌, ℕ, suc, ◌+◌, Bool, true, false, ◌||◌, cond, List, [], ◌∷◌, Option, Some, None, length, map, refl, ap, sym, subst, ◌∙◌}
+use Rattle.std.specs.Prelude.{All, IfSome, find, is_some, option_map}
 use Rattle.std.specs.Cmp.{IsEquivalence}
 use Rattle.std.specs.List.{AllZip, cons_option, enumerate_from, filter_map}
 use Rattle.std.specs.List.Sorted.{IsPermutation}
@@ -59,11 +59,11 @@ field-keys true (x ∷ xs) = ap (λ l. x.1 ∷ l) (field-keys true xs)
 field-keys false (x ∷ xs) = ap (λ l. x.1 ∷ l) (field-keys false xs)
 
 module _ {E : Type 0} (eq : E → E → Bool) (laws : IsEquivalence eq) where
-  abbrev AreEqual : List E → List E → Type 0
+  abbrev pub AreEqual : List E → List E → Type 0
   AreEqual = AllZip (λ d e. eq d e ≡ true)
 
   -- equal entries, one by one, are the same up to equality
-  equal-in : (e : E) (xs ys : List E) → AreEqual xs ys → is_in eq e ys ≡ is_in eq e xs
+  pub equal-in : (e : E) (xs ys : List E) → AreEqual xs ys → is_in eq e ys ≡ is_in eq e xs
   equal-in e [] [] h = refl
   equal-in e [] (y ∷ ys) h = absurd h
   equal-in e (x ∷ xs) [] h = absurd h
@@ -72,7 +72,7 @@ module _ {E : Type 0} (eq : E → E → Bool) (laws : IsEquivalence eq) where
       test : eq e y ≡ eq e x
       test = laws.symm e y ∙ sym (laws.congr x y e h.0) ∙ laws.symm x e
 
-  equal-apart : (xs ys : List E) → AreEqual xs ys → NoTwoEqual eq xs → NoTwoEqual eq ys
+  pub equal-apart : (xs ys : List E) → AreEqual xs ys → NoTwoEqual eq xs → NoTwoEqual eq ys
   equal-apart [] [] h once = tt
   equal-apart [] (y ∷ ys) h once = absurd h
   equal-apart (x ∷ xs) [] h once = absurd h
@@ -85,7 +85,7 @@ module _ {E : Type 0} (eq : E → E → Bool) (laws : IsEquivalence eq) where
   equal-values f alike (x ∷ xs) [] h = absurd h
   equal-values f alike (x ∷ xs) (y ∷ ys) h = λ i. sym (alike x y h.0) i ∷ equal-values f alike xs ys h.1 i
 
-  equal-length : (xs ys : List E) → AreEqual xs ys → length ys ≡ length xs
+  pub equal-length : (xs ys : List E) → AreEqual xs ys → length ys ≡ length xs
   equal-length [] [] h = refl
   equal-length [] (y ∷ ys) h = absurd h
   equal-length (x ∷ xs) [] h = absurd h

@@ -1,13 +1,13 @@
 -- The cites of an answer are those of its requests, each once.
-use Rattle.std.proofs.Common.{◌≡◌, ℕ, ◌+◌, ◌≤◌, Bool, List, [], ◌∷◌, ◌++◌, Option, Some, None, length, map, take, refl, ap, sym, subst, ◌∙◌, arith}
+use Rattle.std.proofs.Common.{◌≡◌, ℕ, ◌+◌, ◌≤◌, Bool, List, [], ◌∷◌, ◌++◌, Option, Some, None, length, map, take, refl, ap, sym, subst, arith}
 use Rattle.std.specs.Prelude.{All, slice_get, zip}
-use Rattle.std.specs.List.{enumerate_from, range_with_len}
+use Rattle.std.specs.List.{range_with_len}
 use Rattle.std.specs.List.Sorted.{IsPermutation}
 use Rattle.std.specs.Option.{option_map_or}
 use Rattle.std.proofs.Math.Seq.{length-take-le}
 use Rattle.std.proofs.lemmas.List.Elements.{All-cons, All-nil}
 use Rattle.std.proofs.lemmas.List.Sorted.{IsPermutation-map, IsPermutation-refl, IsPermutation-trans}
-use Rattle.csl_driver.specs.Answer.{Job, entries_listed, in_final_order, in_the_end, rendered_first}
+use Rattle.csl_driver.specs.Answer.{Job, entries_listed, in_final_order, rendered_first}
 use Rattle.csl_driver.specs.AnswerLaws.{HasOwnCites, cite_of}
 use Rattle.csl_driver.proofs.FirstPlaced.{from}
 use Rattle.csl_driver.proofs.Standing.{all-changed, all-mapped, grouped-request, same-changed}

@@ -70,7 +70,7 @@ text-shown f None = refl
 text-shown f (Some []) = refl
 text-shown f (Some (b ∷ bs)) = refl
 
-abbrev all_shown : List Shown → List ℕ
+abbrev pub all_shown : List Shown → List ℕ
 all_shown = flat_map (λ c. entries_shown c.tree)
 
 behind-shown : (f : Formatting) (cs : List Shown) → entries_shown (flat_map (behind_delimiter f) cs) ≡ all_shown cs
@@ -101,7 +101,7 @@ enclosed-shown true layout cs =
     ∙ joined-cites-shown f cs
 enclosed-shown false layout cs = joined-cites-shown (layout_formatting layout) cs
 
-assembled-shown : (encloses : Bool) (layout : LayoutValue) (cs : List Shown) → entries_shown (assembled encloses layout cs) ≡ all_shown cs
+pub assembled-shown : (encloses : Bool) (layout : LayoutValue) (cs : List Shown) → entries_shown (assembled encloses layout cs) ≡ all_shown cs
 assembled-shown encloses layout [] = refl
 assembled-shown encloses layout (c ∷ cs) = simplified-shown (enclosed_cites encloses layout (c ∷ cs)) ∙ enclosed-shown encloses layout (c ∷ cs)
 

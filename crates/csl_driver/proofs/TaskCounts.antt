@@ -66,14 +66,14 @@ module _ {E P : Type 0} (table : StateTable E) where
       ∙ (λ j. again-row c.request c.items j + again-count cs j)
       ∙ sym (ap length (filter-append (λ e. is_some (table e)) own (entries_cited cs)) ∙ length-append (filter (λ e. is_some (table e)) own) (filter (λ e. is_some (table e)) (entries_cited cs)))
 
-last-count : {E P : Type 0} (cites : List (CiteRender E P)) → length (last_tasks cites) ≡ sum_by size cites
+pub last-count : {E P : Type 0} (cites : List (CiteRender E P)) → length (last_tasks cites) ≡ sum_by size cites
 last-count cites =
     length-flat_map (λ c. citation_tasks c.0 c.1) (enumerate_from 0 cites)
     ∙ sum-same (λ c. length (citation_tasks c.0 c.1)) (λ c. size c.1) (λ c. length-map c.1.items _) (enumerate_from 0 cites)
     ∙ sum-numbered size 0 cites
 
 -- where there is a bibliography
-wanted-count : {B X : Type 0} (o : Option B) (ts : List X) (n : ℕ) → length ts ≡ n → length (where_wanted o ts) ≡ where_listed o n
+pub wanted-count : {B X : Type 0} (o : Option B) (ts : List X) (n : ℕ) → length ts ≡ n → length (where_wanted o ts) ≡ where_listed o n
 wanted-count None ts n same = refl
 wanted-count (Some b) ts n same = same
 

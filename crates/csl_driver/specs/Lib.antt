@@ -14,3 +14,12 @@ pub mod JobView
 pub mod DraftView
 pub mod WriterTasks
 pub mod OwnError
+pub mod CslAnswer
+pub mod CslAccount
+pub mod CslTasks
+pub mod CslPromised
+pub mod CslParts
+pub mod CslByEntry
+pub mod CslReadBack
+pub mod CslCitations
+pub mod CslLaws

@@ -242,7 +242,7 @@ impl<'d, 'o, 'a, T: EntryLike, P: Eq + Drop> Draft<'d, 'o, 'a, T, P> {
     /// The numbers of the entries in the end, by their places in the table: those of the
     /// bibliography where an order is used, else those of the cites in their final order. Behind
     /// them stands the number that the next entry would have.
-    fn final_numbers(
+    pub(crate) fn final_numbers(
         self,
         alloc: Global,
         cites: &[SpeculativeCiteRender<'_, 'a, T, P>],

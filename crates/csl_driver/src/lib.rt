@@ -12,17 +12,22 @@ pub use csl_passes::{item, request};
 pub use csl_round_laws::mode;
 pub use csl_writers::{task, writer};
 pub use csl_writing::{
-    brackets, cite, context, counter, layout_writer, locator, lookup, means, prepared, properties,
-    purpose, state, terms, token, writing, year,
+    apart, brackets, cite, context, counter, layout_writer, locator, lookup, means, prepared,
+    properties, purpose, state, terms, token, writing, year,
 };
 
 pub mod account;
 mod bibliography;
 mod cited;
+mod csl;
+pub mod csl_account;
+mod csl_bibliography;
+mod csl_cites;
 mod draft;
 pub mod driver;
 pub mod error;
 mod finish;
+mod finish_csl;
 pub mod laws;
 pub mod passes;
 mod rings;

@@ -31,6 +31,7 @@ ghost use Rattle.csl_lookup.specs.ValueLaws.{
   Commute,
 };
 
+use crate::apart::Apart;
 use crate::brackets::Brackets;
 use crate::locator::{LocatorPayload, SpecificLocator, TransparentLocator};
 use crate::means::Means;
@@ -94,11 +95,12 @@ pub fn copies_are_equal<P: Drop>()
         → b ≡ a }
 {}
 
-/// A law: `==` of brackets, of purposes, of states, of means and of what is certain of a cite is
-/// true exactly of equal values.
+/// A law: `==` of brackets, of purposes, of words around a cite, of states, of means and of what is
+/// certain of a cite is true exactly of equal values.
 pub fn state_equality_decides()
     ensures brackets { TellsEqual ⟦<Brackets as PartialEq>⟧.eq }
     ensures purpose { TellsEqual ⟦<CitePurpose as PartialEq>⟧.eq }
+    ensures apart { TellsEqual ⟦<Apart as PartialEq>⟧.eq }
     ensures usage { TellsEqual ⟦<IdentifierUsage as PartialEq>⟧.eq }
     ensures ibid { TellsEqual ⟦<IbidState as PartialEq>⟧.eq }
     ensures verdict { TellsEqual ⟦<CollapseVerdict as PartialEq>⟧.eq }

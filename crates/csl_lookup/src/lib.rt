@@ -1,6 +1,7 @@
 //! What is looked up for a cite: its small values, and the terms of a style's locales.
 #![tactic(auto)]
 
+pub mod apart;
 pub mod brackets;
 pub mod laws;
 pub mod locator;

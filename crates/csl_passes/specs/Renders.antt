@@ -3,6 +3,7 @@ use Rattle.std.specs.Prelude.{ℕ, Bool, List, Option}
 use Rattle.csl_trees.specs.Child.{Child}
 use Rattle.csl_values.specs.declared.names.NameDisambiguationProperties.{NameDisambiguationProperties}
 use Rattle.csl_lookup.specs.Properties.{LocatorValue, Properties}
+use Rattle.csl_lookup.specs.declared.apart.Apart.{Apart}
 use Rattle.csl_lookup.specs.declared.purpose.CitePurpose.{CitePurpose}
 use Rattle.csl_lookup.specs.declared.state.CollapseVerdict.{CollapseVerdict}
 use Rattle.csl_passes.specs.Request.{Request}
@@ -20,6 +21,7 @@ pub record ItemRender (E P : Type 0) : Type 0 where
   pub hidden : Bool
   pub locale : Option (List ℕ)
   pub purpose : Option CitePurpose
+  pub apart : Option Apart
   pub verdict : Option CollapseVerdict
 
 -- the cites of a request

@@ -22,6 +22,7 @@ module _ {T P : Type 0} where
     hidden = i.hidden;
     locale = option_map code_view i.locale;
     purpose = i.purpose;
+    apart = i.apart;
     verdict = i.collapse_verdict;
   }
 

@@ -4,6 +4,7 @@ use Rattle.std.specs.List.{flat_map}
 use Rattle.csl_style_values.specs.Style.{StyleValue, LocaleValue}
 use Rattle.csl_lookup.specs.Lookup.{Source}
 use Rattle.csl_lookup.specs.Properties.{LocatorValue}
+use Rattle.csl_lookup.specs.declared.apart.Apart.{Apart}
 use Rattle.csl_lookup.specs.declared.purpose.CitePurpose.{CitePurpose}
 
 -- a cite: what is cited and how, and the place that it had in its request
@@ -13,6 +14,7 @@ pub record RequestedCite (E P : Type 0) : Type 0 where
   pub locale : Option (List ℕ)
   pub hidden : Bool
   pub purpose : Option CitePurpose
+  pub apart : Option Apart
   pub place : ℕ
 
 pub record Request (E P : Type 0) : Type 0 where

@@ -17,6 +17,7 @@ module _ {T P : Type 0} where
     locale = option_map code_view i.locale;
     hidden = i.hidden;
     purpose = i.purpose;
+    apart = i.apart;
     place = i.initial_idx;
   }
 

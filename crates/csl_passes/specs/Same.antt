@@ -18,6 +18,7 @@ module _ {T P : Type 0} (entry_eq : T → T → Bool) (payload_eq : P → P → 
     pub locale : a.locale ≡ b.locale
     pub hidden : a.hidden ≡ b.hidden
     pub purpose : a.purpose ≡ b.purpose
+    pub apart : a.apart ≡ b.apart
     pub place : a.place ≡ b.place
 
   pub record IsSameRequest (a b : CitationRequest T P) : Type 0 where

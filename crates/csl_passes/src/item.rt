@@ -5,6 +5,7 @@ ghost use Rattle.csl_lookup.specs.PropertiesView.{locator_view};
 ghost use Rattle.csl_passes.specs.RequestView.{cite_view};
 
 use csl_base::locale::LocaleCode;
+use csl_lookup::apart::Apart;
 use csl_lookup::locator::SpecificLocator;
 use csl_lookup::purpose::CitePurpose;
 
@@ -21,6 +22,8 @@ pub struct CitationItem<'a, T, P> {
     pub hidden: bool,
     /// What the cite is written for; none is the style's usual way.
     pub purpose: Option<CitePurpose>,
+    /// Where its caller's own words stand around it; none where there are none.
+    pub apart: Option<Apart>,
     /// Its place in the items of its request, once the driver has it; 0 before.
     pub(crate) initial_idx: usize,
 }
@@ -35,6 +38,7 @@ impl<'a, T, P> CitationItem<'a, T, P> {
               locale = None;
               hidden = false;
               purpose = None;
+              apart = None;
               place = 0;
             } }
     {
@@ -53,6 +57,7 @@ impl<'a, T, P> CitationItem<'a, T, P> {
               locale = None;
               hidden = false;
               purpose = None;
+              apart = None;
               place = 0;
             } }
     {
@@ -74,6 +79,7 @@ impl<'a, T, P> CitationItem<'a, T, P> {
               locale = option_map code_view locale;
               hidden = hidden;
               purpose = purpose;
+              apart = None;
               place = 0;
             } }
     {
@@ -83,6 +89,7 @@ impl<'a, T, P> CitationItem<'a, T, P> {
             locale,
             hidden,
             purpose,
+            apart: None,
             initial_idx: 0,
         }
     }
@@ -99,6 +106,14 @@ impl<'a, T, P> CitationItem<'a, T, P> {
         ensures { cite_view result ≡ record (cite_view self.entry) { purpose = Some purpose } }
     {
         self.purpose = Some(purpose);
+        self
+    }
+
+    /// The same cite, with its caller's own words around it.
+    pub fn apart(mut self, apart: Apart) -> CitationItem<'a, T, P>
+        ensures { cite_view result ≡ record (cite_view self.entry) { apart = Some apart } }
+    {
+        self.apart = Some(apart);
         self
     }
 }

@@ -3,6 +3,7 @@ use crate::request::CitationRequest;
 use csl_base::elem::ElemChildren;
 use csl_base::locale::LocaleCode;
 use csl_base::names::NameDisambiguationProperties;
+use csl_lookup::apart::Apart;
 use csl_lookup::locator::SpecificLocator;
 use csl_lookup::properties::CiteProperties;
 use csl_lookup::purpose::CitePurpose;
@@ -32,6 +33,8 @@ pub struct SpeculativeItemRender<'a, T, P> {
     pub hidden: bool,
     pub locale: Option<LocaleCode>,
     pub purpose: Option<CitePurpose>,
+    /// Where its caller's own words stand around it.
+    pub apart: Option<Apart>,
     /// How it is cut behind others of the same authors.
     pub collapse_verdict: Option<CollapseVerdict>,
 }

@@ -31,6 +31,7 @@ module _ {E P : Type 0} where
     locale = i.locale;
     hidden = false;
     purpose = i.purpose;
+    apart = i.apart;
     place = i.properties.certain.initial_idx;
   }
 

@@ -64,6 +64,7 @@ module _ {E P : Type 0} (writing : Writing E P) where
         hidden = c.hidden;
         locale = c.locale;
         purpose = c.purpose;
+        apart = c.apart;
         verdict = None;
       }
 

@@ -130,6 +130,7 @@ fn first_render<'a, T: EntryLike, P: Drop, W: CiteWriter<T, P>>(
         hidden: item.hidden,
         locale: item.locale.clone()?,
         purpose: item.purpose,
+        apart: item.apart,
         collapse_verdict: None,
     })
 }

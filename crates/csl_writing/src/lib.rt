@@ -6,7 +6,7 @@
 #![tactic(auto)]
 
 pub use csl_context::{context, token, writing};
-pub use csl_lookup::{brackets, laws, locator, means, properties, purpose, state, year};
+pub use csl_lookup::{apart, brackets, laws, locator, means, properties, purpose, state, year};
 pub use csl_styles::{prepared, terms};
 pub use csl_writers::{cite, counter};
 

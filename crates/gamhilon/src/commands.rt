@@ -1,7 +1,7 @@
 //! Citations and bibliographies.
 use crate::error::CommandError;
 use crate::files::bytes_of;
-use crate::json_causes::json_refused;
+use crate::json_causes::{behind_mark, json_refused};
 use crate::locales::locales_of;
 use crate::printing::{print_bibliography, print_citations, print_json};
 use crate::references::references_of;
@@ -111,10 +111,11 @@ fn citations_at(
     path: &str,
 ) -> Result<ReadCitations, CommandError> {
     let bytes = bytes_of(rt, path)?;
-    match read_citations(rt.alloc(), &bytes) {
+    let bytes = behind_mark(&bytes);
+    match read_citations(rt.alloc(), bytes) {
         Ok(read) => Ok(read),
         Err(CitationsError::OutOfMemory) => Err(CommandError::OutOfMemory),
-        Err(error) => Err(json_refused(rt.alloc(), path, &bytes, &error)?),
+        Err(error) => Err(json_refused(rt.alloc(), path, bytes, &error)?),
     }
 }
 
@@ -129,16 +130,7 @@ fn print_document(
     let language = found.language(options);
     let files = locales_of(rt, options, language)?;
     let locale = LocaleChain::new(rt.alloc(), language, &found.style.locales, &files)?;
-    let lists_items = options.format == OutputFormat::Json || printed == Printed::Bibliography;
-    let answer = answer_of(
-        rt.alloc(),
-        options,
-        lists_items,
-        found,
-        references,
-        cited,
-        &locale,
-    )?;
+    let answer = answer_of(rt.alloc(), options, found, references, cited, &locale)?;
     let marks = locale.quote_marks();
     if options.format == OutputFormat::Json {
         return print_json(rt, &found.style, &cited.citations, &answer, marks);
@@ -153,7 +145,6 @@ fn print_document(
 fn answer_of(
     alloc: Global,
     options: &Options,
-    lists_items: bool,
     found: &FoundStyle,
     references: &References,
     cited: &Cited,
@@ -164,7 +155,8 @@ fn answer_of(
         locale,
         references,
         citations: &cited.citations,
-        lists_items,
+        // whatever is printed, year suffixes and numbers follow the bibliography
+        lists_items: true,
     };
     match document.answer(alloc) {
         Ok(mut answer) => {

@@ -11,6 +11,14 @@ const BYTE_ORDER_MARK: &[u8] = b"\xef\xbb\xbf";
 /// How many lists and objects may be open at once.
 const MAX_DEPTH: usize = 127;
 
+/// Bytes without the byte order mark before them, where they are UTF-8 and have one.
+pub(crate) fn behind_mark(bytes: &[u8]) -> &[u8] {
+    match str::from_utf8(bytes) {
+        Ok(text) => text.strip_prefix('\u{feff}').unwrap_or(text).as_bytes(),
+        Err(_) => bytes,
+    }
+}
+
 /// What is wrong with a file of JSON of which its reader tells this.
 ///
 /// # Errors

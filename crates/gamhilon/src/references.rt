@@ -1,7 +1,7 @@
 //! The references of a command.
 use crate::error::CommandError;
 use crate::files::bytes_of;
-use crate::json_causes::json_refused;
+use crate::json_causes::{behind_mark, json_refused};
 use crate::reports::show_warning;
 use cite_command::arguments::Options;
 use csl_json::fault::ReferencesError;
@@ -33,7 +33,7 @@ pub(crate) fn references_of(
     Ok(references)
 }
 
-/// The references in a file of these bytes.
+/// The references in a file of these bytes, behind a byte order mark or without one.
 ///
 /// # Errors
 ///
@@ -43,6 +43,7 @@ pub(crate) fn references_in(
     path: &str,
     bytes: &[u8],
 ) -> Result<ReadReferences, CommandError> {
+    let bytes = behind_mark(bytes);
     match read_references(alloc, bytes) {
         Ok(read) => Ok(read),
         Err(ReferencesError::OutOfMemory) => Err(CommandError::OutOfMemory),

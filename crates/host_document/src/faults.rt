@@ -44,9 +44,9 @@ fn read_bytes(alloc: Global, bytes: &[u8]) -> Result<(), ReadError>
 }
 
 /// The first fault of the bytes, where they are no driven document: the first that is met when the
-/// styles are read, then the entries, the requests, the bibliography, the rest, and last what was
-/// written; and of each object first its keys and then its members in the order in which the form
-/// names them.
+/// styles are read, then the entries, the rounds, the requests, the bibliography, the offset, and
+/// last what was written; and of each object first its keys and then its members in the order in
+/// which the form names them.
 ///
 /// # Errors
 /// Where memory is refused.

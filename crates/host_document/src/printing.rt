@@ -7,7 +7,6 @@ ghost use Rattle.json_tasks.specs.TaskData.{task_data};
 ghost use Rattle.host_document.specs.Drive.{answer_text, driven_text, missing_text};
 
 use csl_assembly::rendered::Rendered;
-use csl_base::entry::PlainEntry;
 use host_driver::drive::Driven;
 use host_table::key::TaskKey;
 use json_answer::printing::print_json;
@@ -64,11 +63,8 @@ fn missing_text(alloc: Global, missing: &[TaskKey]) -> Result<String, AllocError
 }
 
 /// What comes of a document, as JSON: `{"answer": ..}`, or `{"missing": [..]}`.
-pub(crate) fn driven_text(
-    alloc: Global,
-    driven: Driven<'_, PlainEntry>,
-) -> Result<String, AllocError>
-    ensures { IfOk result (λ s. string_bytes s ≡ driven_text driven.entry) }
+pub(crate) fn driven_text<A: Drop>(alloc: Global, driven: Driven<A>) -> Result<String, AllocError>
+    ensures { IfOk result (λ s. string_bytes s ≡ driven_text driven) }
 {
     match driven {
         Driven::Answer(answer, _account) => answer_text(alloc, &answer),

@@ -7,21 +7,16 @@ use Rattle.serde_json.specs.Read.{read}
 use Rattle.csl_values.specs.declared.entry.PlainEntry.{PlainEntry}
 use Rattle.csl_style_values.specs.Style.{LocaleValue, StyleValue}
 use Rattle.csl_passes.specs.Request.{Request}
-use Rattle.csl_round_laws.specs.declared.mode.RoundMode.{RoundMode}
-use Rattle.json_values.specs.Names.{one_of}
-use Rattle.json_values.specs.Tables.{NameTable}
 use Rattle.json_values.specs.Words.{◌>>=◌, object_with, required, optional, items_of_key, optional_items, whole}
 use Rattle.json_styles.specs.Locales.{locale_form}
 use Rattle.json_styles.specs.Styles.{styles_form, style_named}
 use Rattle.json_document.specs.Entries.{entry_form, entry_named}
 use Rattle.json_document.specs.Requests.{request_form, wanted_form}
-
--- in how many rounds cites are disambiguated
-abbrev pub round_modes : NameTable RoundMode
-round_modes = (codes "three", RoundMode.Three) ∷ (codes "full", RoundMode.Full) ∷ []
+use Rattle.json_document.specs.Rounds.{rounds_form}
+use Rattle.json_document.specs.declared.rounds.Rounds.{Rounds}
 
 -- a document: its requests; the style, the locale and the order of the bibliography; the locales;
--- the number of the first entry; and the rounds
+-- the number of the first entry; and how works are told apart
 pub record Document : Type 0 where
   pub requests : List (Request PlainEntry Infallible)
   pub style : StyleValue
@@ -29,17 +24,17 @@ pub record Document : Type 0 where
   pub locales : List LocaleValue
   pub order : Option (List PlainEntry)
   pub offset : ℕ
-  pub rounds : RoundMode
+  pub rounds : Rounds
 
 -- what is asked for, of the styles and entries that names and keys find, with these locales
 unfoldable pub asked_form : (List ℕ → Option StyleValue) → (List ℕ → Option PlainEntry)
     → List LocaleValue
     → Data → Option Document
 asked_form style entry locales o = do
-  requests ← items_of_key (request_form style entry locales) (codes "requests") o
+  rounds ← rounds_form o
+  requests ← items_of_key (request_form style entry rounds locales) (codes "requests") o
   wanted ← required (wanted_form style entry) (codes "bibliography") o
   offset ← optional 0 whole (codes "offset") o
-  rounds ← optional RoundMode.Three (one_of round_modes) (codes "rounds") o
   Some (record {
     requests = requests;
     style = wanted.0;

@@ -21,6 +21,7 @@ asked_cite_view c = record {
   locale = option_map code_view c.locale;
   hidden = c.hidden;
   purpose = c.purpose;
+  apart = c.apart;
   place = 0;
 }
 

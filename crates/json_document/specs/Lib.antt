@@ -1,6 +1,7 @@
 pub mod Prepared
 pub mod FoundView
 pub mod Entries
+pub mod Rounds
 pub mod Requests
 pub mod Finders
 pub mod WantedView

@@ -7,10 +7,12 @@ use Rattle.csl_values.specs.declared.entry.PlainEntry.{PlainEntry}
 use Rattle.csl_style_values.specs.Style.{LocaleValue, StyleValue}
 use Rattle.csl_passes.specs.Class.{is_note}
 use Rattle.csl_lookup.specs.Properties.{text_payload, LocatorValue}
+use Rattle.csl_lookup.specs.declared.apart.Apart.{Apart}
 use Rattle.csl_passes.specs.Request.{RequestedCite, Request}
 use Rattle.json_values.specs.Words.{◌>>=◌, object_with, required, where_present, flag, list_form, items_of_key, whole, name_form}
 use Rattle.json_values.specs.Names.{one_of}
-use Rattle.json_values.specs.Tables.{locators, purposes}
+use Rattle.json_values.specs.Tables.{aparts, locators, purposes}
+use Rattle.json_document.specs.declared.rounds.Rounds.{Rounds}
 
 -- a locator: what it counts, and its text
 abbrev pub locator_of_items : Items → Option (LocatorValue Infallible)
@@ -23,36 +25,45 @@ locator_of_items _ = None
 abbrev pub locator_form : Data → Option (LocatorValue Infallible)
 locator_form d = option_and_then locator_of_items (as_array d)
 
+-- where a caller's own words stand around a cite, which is said only where works are told apart as
+-- CSL has it
+abbrev pub apart_form : Rounds → Data → Option Apart
+apart_form Rounds.Csl d = one_of aparts d
+apart_form _ d = None
+
 -- a cite of an entry
-unfoldable pub item_form : (List ℕ → Option PlainEntry) → Data
+unfoldable pub item_form : (List ℕ → Option PlainEntry) → Rounds → Data
     → Option (RequestedCite PlainEntry Infallible)
-item_form entry d = do
+item_form entry rounds d = do
   o ← object_with (codes "entry" ∷ codes "locator" ∷ codes "locale" ∷ codes "hidden"
-      ∷ codes "purpose" ∷ []) d
+      ∷ codes "purpose" ∷ codes "apart" ∷ []) d
   cited ← required (name_form entry) (codes "entry") o
   locator ← where_present locator_form (codes "locator") o
   locale ← where_present as_str (codes "locale") o
   hidden ← flag (codes "hidden") o
   purpose ← where_present (one_of purposes) (codes "purpose") o
+  apart ← where_present (apart_form rounds) (codes "apart") o
   Some (record {
     entry = cited;
     locator = locator;
     locale = locale;
     hidden = hidden;
     purpose = purpose;
+    apart = apart;
     place = 0;
   })
 
 module _ (style : List ℕ → Option StyleValue) (entry : List ℕ → Option PlainEntry) where
   -- a request for a citation, with these locales; the note number is kept where the style's cites
   -- stand in notes
-  unfoldable pub request_form : List LocaleValue → Data → Option (Request PlainEntry Infallible)
-  request_form locales d = do
+  unfoldable pub request_form : Rounds → List LocaleValue → Data
+      → Option (Request PlainEntry Infallible)
+  request_form rounds locales d = do
     o ← object_with (codes "style" ∷ codes "locale" ∷ codes "note" ∷ codes "items" ∷ []) d
     by ← required (name_form style) (codes "style") o
     locale ← where_present as_str (codes "locale") o
     note ← where_present whole (codes "note") o
-    cites ← items_of_key (item_form entry) (codes "items") o
+    cites ← items_of_key (item_form entry rounds) (codes "items") o
     Some (record {
       cites = cites;
       style = by;

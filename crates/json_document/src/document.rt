@@ -18,19 +18,16 @@ ghost use Rattle.json_values.specs.Reads.{Faults, Reads};
 use crate::finders::{EntriesByKey, StylesByName, entries_by_key, styles_by_name};
 use crate::found::FoundStyle;
 use crate::requests::{AskedRequest, Wanted, bibliography_request_of, requests_of};
+use crate::rounds::{Rounds, rounds_of};
 use csl_base::entry::PlainEntry;
 use csl_base::locale::Locale;
-use csl_round_laws::mode::RoundMode;
 use json_values::error::ReadError;
 use json_values::fault;
 use json_values::fault::{Fault, Found};
 use json_values::refusals::lacking;
-use json_values::words::{name_or, number_or, object_with};
+use json_values::words::{number_or, object_with};
 use serde_json::Value;
 use std::alloc::Global;
-
-/// In how many rounds cites are disambiguated.
-const ROUNDS: &[(&str, RoundMode)] = &[("three", RoundMode::Three), ("full", RoundMode::Full)];
 
 /// What the document asks for.
 #[derive(Drop)]
@@ -41,7 +38,7 @@ pub struct Job<'e> {
     pub locales: &'e [Locale],
     /// The number of the first entry.
     pub offset: usize,
-    pub rounds: RoundMode,
+    pub rounds: Rounds,
 }
 
 /// The error of a text that is none, or no JSON.
@@ -164,10 +161,10 @@ fn job_of<'e>(
         (view object.now)) }
     ensures fault { Faults result (view object.now) }
 {
-    let requests = requests_of(alloc, styles, entries, locales, object)?;
+    let rounds = rounds_of(alloc, object)?;
+    let requests = requests_of(alloc, styles, entries, rounds, locales, object)?;
     let wanted = wanted_at(alloc, styles, entries, object)?;
     let offset = number_or(alloc, object, "offset", 0)?;
-    let rounds = name_or(alloc, ROUNDS, object, "rounds", RoundMode::Three)?;
     Ok(Job {
         requests,
         wanted,

@@ -40,8 +40,9 @@ fn read_bytes(alloc: Global, bytes: &[u8]) -> Result<(), ReadError>
 }
 
 /// The first fault of the bytes, where they are no document: the first that is met when the styles
-/// are read, then the locales, the entries, the requests, the bibliography and the rest, and of
-/// each object first its keys and then its members in the order in which the form names them.
+/// are read, then the locales, the entries, the rounds, the requests, the bibliography and the
+/// offset, and of each object first its keys and then its members in the order in which the form
+/// names them.
 ///
 /// # Errors
 /// Where memory is refused.

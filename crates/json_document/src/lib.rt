@@ -8,3 +8,4 @@ pub mod first_fault;
 pub mod found;
 pub mod persons;
 pub mod requests;
+pub mod rounds;

@@ -23,7 +23,13 @@ ghost use Rattle.json_values.specs.Words.{
   where_present,
 };
 ghost use Rattle.json_document.specs.Finders.{entry_in, style_in};
-ghost use Rattle.json_document.specs.Requests.{locator_form, item_form, request_form, wanted_form};
+ghost use Rattle.json_document.specs.Requests.{
+  apart_form,
+  item_form,
+  locator_form,
+  request_form,
+  wanted_form,
+};
 ghost use Rattle.json_document.specs.WantedView.{asked_bibliography_view};
 ghost use Rattle.json_values.specs.Names.{one_of};
 ghost use Rattle.json_values.specs.Tables.{locators};
@@ -31,9 +37,11 @@ ghost use Rattle.json_values.specs.Reads.{Faults, IsErrorOf, Reads};
 
 use crate::finders::{EntriesByKey, StylesByName};
 use crate::found::FoundStyle;
+use crate::rounds::Rounds;
 use csl_base::entry::PlainEntry;
 use csl_base::locale::{Locale, LocaleCode};
 use csl_base::taxonomy::Locator;
+use csl_lookup::apart::Apart;
 use csl_lookup::locator::{LocatorPayload, SpecificLocator};
 use csl_lookup::purpose::CitePurpose;
 use csl_passes::item::CitationItem;
@@ -42,7 +50,7 @@ use csl_styles::terms::TermTables;
 use json_values::error::ReadError;
 use json_values::fault;
 use json_values::refusals::{lacking, unlike};
-use json_values::tables::{LOCATORS, PURPOSES};
+use json_values::tables::{APARTS, LOCATORS, PURPOSES};
 use json_values::words::{
     flag, list_of, object_with, one_of, optional_code, optional_name, optional_number,
     required_list, required_text, text_of,
@@ -72,6 +80,7 @@ pub struct AskedCite<'e> {
     pub locale: Option<LocaleCode>,
     pub hidden: bool,
     pub purpose: Option<CitePurpose>,
+    pub apart: Option<Apart>,
 }
 
 /// A request of the document.
@@ -171,19 +180,46 @@ fn optional_locator(alloc: Global, value: &Value) -> Result<Option<AskedLocator>
     }
 }
 
+/// Where a caller's own words stand, which is said only where works are told apart as CSL has it.
+fn apart_of(alloc: Global, rounds: Rounds, value: &Value) -> Result<Apart, ReadError>
+    ensures read { Reads (λ a. a) result (apart_form rounds (view value.now)) }
+    ensures fault { Faults result (view value.now) }
+{
+    match rounds {
+        Rounds::Csl => one_of(alloc, APARTS, value),
+        Rounds::Mode(_) => Err(unlike(alloc, value, fault::Wanted::KeyOfCsl)),
+    }
+}
+
+#[tactic(auto, using(json_values::proofs::Ways::fails_outside))]
+fn optional_apart(alloc: Global, rounds: Rounds, value: &Value) -> Result<Option<Apart>, ReadError>
+    ensures read { Reads (λ a. a) result
+        (where_present (apart_form rounds) (codes "apart") (view value.now)) }
+    ensures fault { Faults result (view value.now) }
+{
+    match value.get("apart") {
+        None => Ok(None),
+        Some(member) => match apart_of(alloc, rounds, member) {
+            Ok(apart) => Ok(Some(apart)),
+            Err(error) => Err(error.under(alloc, "apart")),
+        },
+    }
+}
+
 #[tactic(auto, unfolding(crate::specs::Requests::item_form))]
 fn item_of<'e>(
     alloc: Global,
     entries: &EntriesByKey<'e>,
+    rounds: Rounds,
     value: &Value,
 ) -> Result<AskedCite<'e>, ReadError>
     ensures read { Reads asked_cite_view result
-        (item_form (entry_in entries.now) (view value.now)) }
+        (item_form (entry_in entries.now) rounds (view value.now)) }
     ensures fault { Faults result (view value.now) }
 {
     let object = object_with(
         alloc,
-        &["entry", "locator", "locale", "hidden", "purpose"],
+        &["entry", "locator", "locale", "hidden", "purpose", "apart"],
         value,
     )?;
     let entry = required_entry(alloc, entries, object)?;
@@ -191,12 +227,14 @@ fn item_of<'e>(
     let locale = optional_code(alloc, object, "locale")?;
     let hidden = flag(alloc, object, "hidden")?;
     let purpose = optional_name(alloc, PURPOSES, object, "purpose")?;
+    let apart = optional_apart(alloc, rounds, object)?;
     Ok(AskedCite {
         entry,
         locator,
         locale,
         hidden,
         purpose,
+        apart,
     })
 }
 
@@ -204,15 +242,16 @@ fn item_of<'e>(
 fn all_cites<'e>(
     alloc: Global,
     entries: &EntriesByKey<'e>,
+    rounds: Rounds,
     items: &[Value],
 ) -> Result<Vec<AskedCite<'e>>, ReadError>
     ensures read { Reads (λ v. asked_cites_view v.items) result
-        (all_items (item_form (entry_in entries.now)) (items_view items.now)) }
+        (all_items (item_form (entry_in entries.now) rounds) (items_view items.now)) }
     ensures fault { Faults result (array (items_view items.now)) }
 {
     let mut cites = Vec::with_capacity(alloc, items.len())?;
     for (place, item) in items.iter().enumerate() {
-        match item_of(alloc, entries, item) {
+        match item_of(alloc, entries, rounds, item) {
             Ok(cite) => cites.push(cite)?,
             Err(error) => return Err(error.in_item(place)),
         }
@@ -225,14 +264,15 @@ fn all_cites<'e>(
 fn cites_at<'e>(
     alloc: Global,
     entries: &EntriesByKey<'e>,
+    rounds: Rounds,
     object: &Value,
 ) -> Result<Vec<AskedCite<'e>>, ReadError>
     ensures read { Reads (λ v. asked_cites_view v.items) result
-        (items_of_key (item_form (entry_in entries.now)) (codes "items") (view object.now)) }
+        (items_of_key (item_form (entry_in entries.now) rounds) (codes "items") (view object.now)) }
     ensures fault { Faults result (view object.now) }
 {
     let list = required_list(alloc, object, "items")?;
-    match all_cites(alloc, entries, list) {
+    match all_cites(alloc, entries, rounds, list) {
         Ok(cites) => Ok(cites),
         Err(error) => Err(error.under(alloc, "items")),
     }
@@ -271,19 +311,20 @@ fn request_of<'e>(
     alloc: Global,
     styles: &StylesByName<'e>,
     entries: &EntriesByKey<'e>,
+    rounds: Rounds,
     locales: &[Locale],
     value: &Value,
 ) -> Result<AskedRequest<'e>, ReadError>
     ensures read { Reads (asked_request_view (map locale_view locales.now)) result
-        (request_form (style_in styles.now) (entry_in entries.now) (map locale_view locales.now)
-        (view value.now)) }
+        (request_form (style_in styles.now) (entry_in entries.now) rounds
+        (map locale_view locales.now) (view value.now)) }
     ensures fault { Faults result (view value.now) }
 {
     let object = object_with(alloc, &["style", "locale", "note", "items"], value)?;
     let style = required_style(alloc, styles, object)?;
     let locale = optional_code(alloc, object, "locale")?;
     let note_number = optional_number(alloc, object, "note")?;
-    let items = cites_at(alloc, entries, object)?;
+    let items = cites_at(alloc, entries, rounds, object)?;
     Ok(AskedRequest {
         items,
         style,
@@ -297,18 +338,19 @@ fn all_requests<'e>(
     alloc: Global,
     styles: &StylesByName<'e>,
     entries: &EntriesByKey<'e>,
+    rounds: Rounds,
     locales: &[Locale],
     items: &[Value],
 ) -> Result<Vec<AskedRequest<'e>>, ReadError>
     ensures read { Reads (λ v. asked_requests_view (map locale_view locales.now) v.items) result
-        (all_items (request_form (style_in styles.now) (entry_in entries.now)
+        (all_items (request_form (style_in styles.now) (entry_in entries.now) rounds
         (map locale_view locales.now))
         (items_view items.now)) }
     ensures fault { Faults result (array (items_view items.now)) }
 {
     let mut requests = Vec::with_capacity(alloc, items.len())?;
     for (place, item) in items.iter().enumerate() {
-        match request_of(alloc, styles, entries, locales, item) {
+        match request_of(alloc, styles, entries, rounds, locales, item) {
             Ok(request) => requests.push(request)?,
             Err(error) => return Err(error.in_item(place)),
         }
@@ -316,22 +358,23 @@ fn all_requests<'e>(
     Ok(requests)
 }
 
-/// The requests of the document.
+/// The requests of the document, in which works are told apart so.
 #[tactic(auto, using(json_values::proofs::Ways::fails_outside))]
 pub fn requests_of<'e>(
     alloc: Global,
     styles: &StylesByName<'e>,
     entries: &EntriesByKey<'e>,
+    rounds: Rounds,
     locales: &[Locale],
     object: &Value,
 ) -> Result<Vec<AskedRequest<'e>>, ReadError>
     ensures read { Reads (λ v. asked_requests_view (map locale_view locales.now) v.items) result
-        (items_of_key (request_form (style_in styles.now) (entry_in entries.now)
+        (items_of_key (request_form (style_in styles.now) (entry_in entries.now) rounds
         (map locale_view locales.now)) (codes "requests") (view object.now)) }
     ensures fault { Faults result (view object.now) }
 {
     let list = required_list(alloc, object, "requests")?;
-    match all_requests(alloc, styles, entries, locales, list) {
+    match all_requests(alloc, styles, entries, rounds, locales, list) {
         Ok(requests) => Ok(requests),
         Err(error) => Err(error.under(alloc, "requests")),
     }
@@ -370,7 +413,9 @@ fn driver_item<'r>(alloc: Global, cite: &'r AskedCite<'_>) -> Result<Item<'r>, A
     let entry: &'r PlainEntry = cite.entry;
     let locator = driver_locator(&cite.locator);
     let locale = copied_code(alloc, &cite.locale)?;
-    Ok(CitationItem::new(entry, locator, locale, cite.hidden, cite.purpose))
+    let mut item = CitationItem::new(entry, locator, locale, cite.hidden, cite.purpose);
+    item.apart = cite.apart;
+    Ok(item)
 }
 
 fn driver_items<'r>(alloc: Global, cites: &'r [AskedCite<'r>]) -> Result<Vec<Item<'r>>, AllocError>

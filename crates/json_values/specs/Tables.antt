@@ -22,6 +22,7 @@ use Rattle.csl_values.specs.declared.taxonomy.OtherTerm.{OtherTerm}
 use Rattle.csl_values.specs.declared.taxonomy.TermForm.{TermForm}
 use Rattle.csl_style_values.specs.declared.element.TestPosition.{TestPosition}
 use Rattle.csl_style_values.specs.declared.element.ChooseMatch.{ChooseMatch}
+use Rattle.csl_lookup.specs.declared.apart.Apart.{Apart}
 use Rattle.csl_lookup.specs.declared.purpose.CitePurpose.{CitePurpose}
 
 -- names and the values that they stand for
@@ -239,4 +240,11 @@ purposes =
     (codes "year", CitePurpose.Year) ∷
     (codes "full", CitePurpose.Full) ∷
     (codes "prose", CitePurpose.Prose) ∷
+    []
+
+-- where a caller's own words stand around a cite
+abbrev pub aparts : NameTable Apart
+aparts =
+    (codes "before", Apart.Before) ∷
+    (codes "both", Apart.Both) ∷
     []

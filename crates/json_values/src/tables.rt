@@ -11,6 +11,7 @@ use csl_base::style::{
 use csl_base::taxonomy::{
     DateVariable, Locator, NameVariable, NumberVariable, OtherTerm, StandardVariable, TermForm,
 };
+use csl_lookup::apart::Apart;
 use csl_lookup::purpose::CitePurpose;
 
 /// The categories of styles: the forms of their cites.
@@ -238,6 +239,9 @@ pub const PURPOSES: &[(&str, CitePurpose)] = &[
     ("prose", CitePurpose::Prose),
 ];
 
+/// Where a caller's own words stand around a cite.
+pub const APARTS: &[(&str, Apart)] = &[("before", Apart::Before), ("both", Apart::Both)];
+
 /// Each table has the rows that its definition lists.
 pub fn rows_are_as_defined()
     ensures categories { AreRowsOf tables.categories CATEGORIES.now }
@@ -262,4 +266,5 @@ pub fn rows_are_as_defined()
     ensures positions { AreRowsOf tables.positions POSITIONS.now }
     ensures matches { AreRowsOf tables.matches MATCHES.now }
     ensures purposes { AreRowsOf tables.purposes PURPOSES.now }
+    ensures aparts { AreRowsOf tables.aparts APARTS.now }
 {}

@@ -1,10 +1,12 @@
 //! What an answer cost, and why there is none, in words.
 
 use csl_base::entry::{EntryLike, PlainEntry};
-use csl_base::names::DisambiguatedNameForm;
+use csl_base::names::{DisambiguatedNameForm, NameDisambiguationProperties};
 use csl_driver::account::Account;
+use csl_driver::csl_account::CslAccount;
 use csl_driver::error::{DriverError, RingLocation};
 use csl_driver::state::DisambiguateState;
+use csl_mentions::state::MentionState;
 
 fn form_word(form: DisambiguatedNameForm) -> &'static str {
     match form {
@@ -15,18 +17,20 @@ fn form_word(form: DisambiguatedNameForm) -> &'static str {
     }
 }
 
+fn print_names(rt: &impl Print, names: &NameDisambiguationProperties) {
+    let _ = print!(rt; "names");
+    for form in names.forms.as_slice() {
+        let _ = print!(rt; " {}", form_word(*form));
+    }
+}
+
 /// Prints by what an entry is disambiguated.
 pub(crate) fn print_state(rt: &impl Print, state: &DisambiguateState) {
     match state {
         DisambiguateState::None => {
             let _ = print!(rt; "nothing");
         }
-        DisambiguateState::NameDisambiguation(names) => {
-            let _ = print!(rt; "names");
-            for form in names.forms.as_slice() {
-                let _ = print!(rt; " {}", form_word(*form));
-            }
-        }
+        DisambiguateState::NameDisambiguation(names) => print_names(rt, names),
         DisambiguateState::Choose => {
             let _ = print!(rt; "choose");
         }
@@ -48,6 +52,55 @@ pub fn print_account(rt: &impl Print, account: &Account<'_, PlainEntry>) {
             let _ = print!(rt; "{}: {number}, ", entry.key());
             print_state(rt, state);
             let _ = println!(rt; "");
+        }
+    }
+}
+
+/// Prints by what a mention is told apart.
+fn print_mention(rt: &impl Print, state: &MentionState) {
+    match (&state.names, state.chosen) {
+        (Some(names), true) => {
+            print_names(rt, names);
+            let _ = print!(rt; " choose");
+        }
+        (Some(names), false) => print_names(rt, names),
+        (None, true) => {
+            let _ = print!(rt; "choose");
+        }
+        (None, false) => {
+            let _ = print!(rt; "nothing");
+        }
+    }
+}
+
+/// Prints the suffix at the end of a line, if there is one.
+fn print_suffix(rt: &impl Print, suffix: &Option<usize>) {
+    match suffix {
+        Some(suffix) => {
+            let _ = println!(rt; ", suffix {suffix}");
+        }
+        None => {
+            let _ = println!(rt; "");
+        }
+    }
+}
+
+/// Prints the renderings and the rounds, and of each entry its key, its number, by what its
+/// mentions are told apart, and its suffix.
+pub fn print_csl_account(rt: &impl Print, account: &CslAccount<'_, PlainEntry>) {
+    let _ = println!(rt; "renders {}, rounds {}", account.renders, account.rounds);
+    for (place, entry) in account.entries.iter().enumerate() {
+        if let (Some(number), Some(first), Some(later), Some(suffix)) = (
+            account.numbers.get(place),
+            account.first_mentions.get(place),
+            account.later_mentions.get(place),
+            account.suffixes.get(place),
+        ) {
+            let _ = print!(rt; "{}: {number}, first ", entry.key());
+            print_mention(rt, first);
+            let _ = print!(rt; ", later ");
+            print_mention(rt, later);
+            print_suffix(rt, suffix);
         }
     }
 }

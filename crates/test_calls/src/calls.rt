@@ -1,6 +1,6 @@
 //! A document's requests, handed to the driver one by one.
 
-use crate::account::{print_account, print_refusal};
+use crate::account::{print_account, print_csl_account, print_refusal};
 use crate::equality::{print_copies, print_requests, print_wanted, properties_differ, word};
 use crate::free::calls_without_memory;
 use crate::passes::by_passes;
@@ -23,6 +23,7 @@ use json_document::document::{Job, job_in, top_of, utf8_text, value_of};
 use json_document::entries::entries_of;
 use json_document::finders::found_styles;
 use json_document::requests::{AskedCite, AskedRequest, copied_code, driver_request};
+use json_document::rounds::Rounds;
 use json_styles::locales::locales_at;
 use json_styles::styles::{NamedStyle, styles_of};
 use serde_json::Value;
@@ -40,7 +41,9 @@ pub enum How {
     FinishUnprepared,
     FinishCounted,
     FinishFull,
-    /// By `finish_full` or `finish_counted`, as the document says; what is printed is the account.
+    FinishCsl,
+    /// By `finish_counted`, `finish_full` or `finish_csl`, as the document says; what is printed is
+    /// the account.
     Account,
     /// Each request by `standalone_citation`.
     Alone,
@@ -218,6 +221,18 @@ fn print_of_rounds<'e>(
     Ok(())
 }
 
+/// Prints the answer in which works are told apart as CSL 1.0.2 has it.
+fn print_of_csl<'e>(
+    rt: &(impl Print + Eprint),
+    driver: Driver<'e>,
+    request: BibliographyRequest<'_, 'e, PlainEntry>,
+) -> Result<(), DriverError> {
+    let _ = eprintln!(rt; "finish_csl");
+    let (rendered, _account) = driver.finish_csl(request)?;
+    print_answer(rt, &rendered);
+    Ok(())
+}
+
 /// Prints whether a copy of the answer is equal to it.
 fn print_copied<'e>(
     rt: &(impl Print + Eprint),
@@ -232,18 +247,36 @@ fn print_copied<'e>(
     Ok(())
 }
 
+/// Prints what the answer cost.
+fn print_cost<'e>(
+    rt: &(impl Print + Eprint),
+    driver: Driver<'e>,
+    request: BibliographyRequest<'_, 'e, PlainEntry>,
+    rounds: Rounds,
+) -> Result<(), DriverError> {
+    match rounds {
+        Rounds::Mode(mode) => {
+            let (_rendered, account) = counted(rt, driver, request, mode)?;
+            print_account(rt, &account);
+        }
+        Rounds::Csl => {
+            let _ = eprintln!(rt; "finish_csl");
+            let (_rendered, account) = driver.finish_csl(request)?;
+            print_csl_account(rt, &account);
+        }
+    }
+    Ok(())
+}
+
 /// Prints what the answer cost, or why there is none.
 fn print_counted<'e>(
     rt: &(impl Print + Eprint),
     driver: Driver<'e>,
     request: BibliographyRequest<'_, 'e, PlainEntry>,
-    rounds: RoundMode,
+    rounds: Rounds,
 ) -> Result<(), DriverError> {
-    match counted(rt, driver, request, rounds) {
-        Ok((_rendered, account)) => {
-            print_account(rt, &account);
-            Ok(())
-        }
+    match print_cost(rt, driver, request, rounds) {
+        Ok(()) => Ok(()),
         Err(error) => {
             print_refusal(rt, &error);
             Err(error)
@@ -256,7 +289,7 @@ fn print_asked<'e>(
     rt: &(impl Print + Eprint),
     driver: Driver<'e>,
     request: BibliographyRequest<'_, 'e, PlainEntry>,
-    rounds: RoundMode,
+    rounds: Rounds,
     how: How,
 ) -> Result<(), DriverError> {
     match how {
@@ -264,6 +297,7 @@ fn print_asked<'e>(
         How::Copies => print_copied(rt, driver, request),
         How::FinishCounted => print_of_rounds(rt, driver, request, RoundMode::Three),
         How::FinishFull => print_of_rounds(rt, driver, request, RoundMode::Full),
+        How::FinishCsl => print_of_csl(rt, driver, request),
         _ => print_finished(rt, driver, request),
     }
 }

@@ -31,6 +31,7 @@ fn answer_to(rt: &(impl Print + Eprint + AllocGlobal), text: &str) -> Result<See
         "finish unprepared" => answered(rt, document, How::FinishUnprepared),
         "finish_counted" => answered(rt, document, How::FinishCounted),
         "finish_full" => answered(rt, document, How::FinishFull),
+        "finish_csl" => answered(rt, document, How::FinishCsl),
         "account" => answered(rt, document, How::Account),
         "standalone_citation" => answered(rt, document, How::Alone),
         "passes" => answered(rt, document, How::Passes),

@@ -73,6 +73,7 @@ fn written<'e>(
         hidden: item.hidden,
         locale: None,
         purpose: None,
+        apart: None,
         collapse_verdict: None,
     })
 }
@@ -174,8 +175,9 @@ fn is_asked_alike(cite: &Cite<'_>, other: &Cite<'_>) -> bool {
     let locator = cite.locator == other.locator;
     let locale = cite.locale == other.locale;
     let purpose = cite.purpose == other.purpose;
+    let apart = cite.apart == other.apart;
     let checked = cite.checked_disambiguate == other.checked_disambiguate;
-    locator && locale && purpose && checked && cite.hidden == other.hidden
+    locator && locale && purpose && apart && checked && cite.hidden == other.hidden
 }
 
 /// Whether the cites of two requests are.

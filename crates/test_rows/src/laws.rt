@@ -1,6 +1,7 @@
 //! What callers get from the laws of an answer, each once at a concrete type.
 use crate::amiss::Amiss;
 use crate::clients::{entry_of_number, hidden_between, letters_in_answer};
+use crate::csl_clients::letters_of_alike;
 use csl_base::entry::{Date, PlainEntry};
 use csl_base::seq::Seq;
 use csl_base::style::IndependentStyle;
@@ -119,4 +120,27 @@ fn are_lettered_in(alloc: Global, style: &IndependentStyle) -> Result<bool, Amis
 /// The letters of two works that read alike differ.
 pub(crate) fn suffixes_have_letters(alloc: Global) -> Result<bool, Amiss> {
     are_lettered_in(alloc, &lettered(alloc)?)
+}
+
+/// Whether they have these letters where works are told apart as CSL has it.
+fn are_lettered_by_csl(
+    alloc: Global,
+    style: &IndependentStyle,
+    entries: &[PlainEntry],
+) -> Result<bool, Amiss> {
+    let driver = driver_of(alloc, style, entries)?;
+    let (_rendered, account) = driver.finish_csl(BibliographyRequest::new(style, None, &[]))?;
+    let letters = letters_of_alike::<PlainEntry, Infallible>(alloc, &account, 0, 1)?;
+    let (one, other) = letters.ok_or("no suffixes")?;
+    Ok(one.as_str() == "a" && other.as_str() == "b")
+}
+
+/// Whether they do in this style.
+fn are_lettered_by_csl_in(alloc: Global, style: &IndependentStyle) -> Result<bool, Amiss> {
+    are_lettered_by_csl(alloc, style, &issued(alloc, &["a", "b"])?)
+}
+
+/// So do those of two works whose later mentions read alike.
+pub(crate) fn alike_mentions_have_letters(alloc: Global) -> Result<bool, Amiss> {
+    are_lettered_by_csl_in(alloc, &lettered(alloc)?)
 }

@@ -9,9 +9,11 @@ mod amiss;
 mod cites;
 mod clients;
 mod counting;
+mod csl_clients;
 mod entries;
 mod finish;
 mod laws;
+mod means;
 mod paths;
 mod places;
 mod prepared;
@@ -24,7 +26,11 @@ use cites::pieces_and_marks;
 use counting::renders_are_counted;
 use entries::{initials_of_given_names, lists_are_copied, pieces_are_copied, texts_are_copied};
 use finish::{cites_are_marked, equal_entries_are_one, note_numbers_in_notes};
-use laws::{hidden_numbers_are_read, numbers_have_entries, suffixes_have_letters};
+use laws::{
+    alike_mentions_have_letters, hidden_numbers_are_read, numbers_have_entries,
+    suffixes_have_letters,
+};
+use means::means_raise_names;
 use places::writes_at_lent_places;
 use prepared::prepared_answers_alike;
 use small::{letters, locators_differ_by_kind, properties_are_compared, small_values, years};
@@ -59,12 +65,17 @@ fn hold(rt: &(impl Print + AllocGlobal)) -> bool {
         ("numbers_have_entries", numbers_have_entries(alloc)),
         ("hidden_numbers_are_read", hidden_numbers_are_read(alloc)),
         ("suffixes_have_letters", suffixes_have_letters(alloc)),
+        (
+            "alike_mentions_have_letters",
+            alike_mentions_have_letters(alloc),
+        ),
         ("writes_at_lent_places", writes_at_lent_places(alloc)),
         ("prepared_answers_alike", prepared_answers_alike(alloc)),
         ("years", Ok(years(alloc))),
         ("letters", letters(alloc)),
         ("small_values", Ok(small_values())),
         ("properties_are_compared", properties_are_compared(alloc)),
+        ("means_raise_names", means_raise_names(alloc)),
         ("locators_differ_by_kind", Ok(locators_differ_by_kind())),
         ("shrinks_at_the_top", shrinks_at_the_top(alloc)),
     ] {

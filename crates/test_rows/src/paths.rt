@@ -72,10 +72,12 @@ pub mod of_writing {
 /// Those of `csl_driver`.
 pub mod of_driver {
     pub use csl_driver::account::Account;
+    pub use csl_driver::apart::Apart;
     pub use csl_driver::brackets::Brackets;
     pub use csl_driver::cite::Cite;
     pub use csl_driver::context::Context;
     pub use csl_driver::counter::Renders;
+    pub use csl_driver::csl_account::CslAccount;
     pub use csl_driver::driver::BibliographyDriver;
     pub use csl_driver::elem::BufWriteFormat;
     pub use csl_driver::elem::Elem;

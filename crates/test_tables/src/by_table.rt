@@ -3,6 +3,7 @@
 //! each thing is taken out of the table, one at a time, and exactly that has to be missing; and a
 //! source that has what is in the table is asked for what an empty one lacks.
 
+use crate::costs::{Answer, Costs, finished_with, in_csl, in_rounds, is_same};
 use crate::filling::fill_from;
 use crate::hosting::host_styles;
 use crate::printing::print_answer;
@@ -13,16 +14,15 @@ use cite_document::error::RunError;
 use cite_document::filling::{bibliography_request, filled_driver};
 use csl_base::entry::PlainEntry;
 use csl_base::locale::Locale;
-use csl_driver::account::Account;
 use csl_driver::error::DriverError;
-use csl_driver::rendered::Rendered;
 use csl_driver::terms::TermTables;
 use csl_writing::layout_writer::LayoutWriter;
-use host_driver::drive::{Driven, drive};
+use host_driver::drive::{Driven, drive, drive_csl};
 use host_table::table::Table;
 use json_document::document::{Job, job_in, top_of, value_of};
 use json_document::entries::entries_of;
 use json_document::finders::found_styles;
+use json_document::rounds::Rounds;
 use json_styles::locales::locales_at;
 use json_styles::styles::{NamedStyle, styles_of};
 use serde_json::Value;
@@ -60,9 +60,6 @@ struct Parts<'d> {
     entries: &'d [PlainEntry],
     locales: &'d [Locale],
 }
-
-/// An answer and its account.
-pub type Answer<'a> = (Rendered, Account<'a, PlainEntry>);
 
 /// Does it with the document.
 pub fn by_table(
@@ -145,7 +142,7 @@ fn finished(asking: &Asking<'_, '_>) -> Result<(), RunError> {
     let job = asking.job;
     let driver = filled_driver(asking.alloc, &job.requests, asking.files, job.offset)?;
     let request = bibliography_request(asking.alloc, job, asking.files)?;
-    match driver.finish_with(request, job.rounds, &mut LayoutWriter::new()) {
+    match finished_with(driver, request, job.rounds, &mut LayoutWriter::new()) {
         Ok(_) => Ok(()),
         Err(error) => Err(DriverError::from(error).into()),
     }
@@ -159,7 +156,7 @@ fn recorded_by<'a>(
     let job = asking.job;
     let driver = filled_driver(asking.alloc, &job.requests, asking.files, job.offset)?;
     let request = bibliography_request(asking.alloc, job, asking.files)?;
-    match driver.finish_with(request, job.rounds, recorder) {
+    match finished_with(driver, request, job.rounds, recorder) {
         Ok(answer) => Ok(answer),
         Err(error) => Err(DriverError::from(error).into()),
     }
@@ -223,14 +220,6 @@ fn from_table(
     }
 }
 
-/// How often a driver is called at most where so many rounds mark.
-pub fn calls_at_most(rounds: u128) -> usize {
-    match usize::try_from(rounds) {
-        Ok(rounds) => rounds.saturating_add(3),
-        Err(_) => usize::MAX,
-    }
-}
-
 /// Takes each thing out of the table in turn, and then fills another one from it.
 fn take_out_and_fill(
     asking: &Asking<'_, '_>,
@@ -259,14 +248,20 @@ fn fill_often(
 }
 
 /// What comes of the table.
-pub fn driven<'a>(
-    asking: &Asking<'a, '_>,
-    table: &Table,
-) -> Result<Driven<'a, PlainEntry>, RunError> {
+pub fn driven<'a>(asking: &Asking<'a, '_>, table: &Table) -> Result<Driven<Costs<'a>>, RunError> {
     let job = asking.job;
     let driver = filled_driver(asking.alloc, &job.requests, asking.files, job.offset)?;
     let request = bibliography_request(asking.alloc, job, asking.files)?;
-    Ok(drive(asking.alloc, driver, request, job.rounds, table)?)
+    match job.rounds {
+        Rounds::Mode(mode) => {
+            let driven = drive(asking.alloc, driver, request, mode, table)?;
+            Ok(in_rounds(driven))
+        }
+        Rounds::Csl => {
+            let driven = drive_csl(asking.alloc, &driver, &request, table)?;
+            Ok(in_csl(driven))
+        }
+    }
 }
 
 /// Answers it so many times from the table.
@@ -285,19 +280,10 @@ fn agrees(
     answer: &Answer<'_>,
 ) -> Result<bool, RunError> {
     match driven(asking, table)? {
-        Driven::Answer(rendered, account) => {
+        Driven::Answer(rendered, costs) => {
             print_answer(rt, &rendered);
-            Ok(rendered == answer.0 && is_same(&account, &answer.1))
+            Ok(rendered == answer.0 && is_same(&costs, &answer.1))
         }
         Driven::Missing(_) => Ok(false),
     }
-}
-
-/// Whether two accounts are the same.
-pub fn is_same(one: &Account<'_, PlainEntry>, other: &Account<'_, PlainEntry>) -> bool {
-    one.renders == other.renders
-        && one.rounds == other.rounds
-        && one.entries == other.entries
-        && one.states == other.states
-        && one.numbers == other.numbers
 }

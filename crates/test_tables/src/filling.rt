@@ -1,17 +1,20 @@
 //! An answer by a source that has what the layouts wrote.
 
-use crate::by_table::{Answer, Asking, calls_at_most, is_same};
+use crate::by_table::Asking;
+use crate::costs::{Answer, Costs, Driver, calls_at_most, is_same};
 use crate::seen::Seen;
 use cite_document::error::RunError;
 use cite_document::filling::{bibliography_request, filled_driver};
 use csl_base::elem::ElemChildren;
 use csl_base::entry::PlainEntry;
+use csl_driver::request::BibliographyRequest;
 use csl_lookup::state::IdentifierUsage;
 use csl_writers::cite::Cite;
-use host_filling::filling::{FillError, FilledAnswer, answer_by};
+use host_filling::filling::{FillError, FilledAnswer, answer_by, answer_csl_by};
 use host_filling::source::CiteSource;
 use host_table::key::TaskKey;
 use host_table::table::Table;
+use json_document::rounds::Rounds;
 use std::alloc::{AllocError, Global};
 
 /// Writes what a table has, and an empty tree for the rest.
@@ -58,9 +61,45 @@ fn has_all(whole: &Table, table: &Table) -> bool {
     whole.keys().all(|key| table.contains_key(key))
 }
 
+/// The answer by a source, in so many calls at most, with what it cost.
+fn filled<'a>(
+    asking: &Asking<'a, '_>,
+    driver: &Driver<'a>,
+    request: &BibliographyRequest<'_, 'a, PlainEntry>,
+    calls: usize,
+    source: &WrittenBefore<'_>,
+) -> Result<FilledAnswer<Costs<'a>>, FillError<AllocError>> {
+    match asking.job.rounds {
+        Rounds::Mode(mode) => {
+            let FilledAnswer {
+                rendered,
+                account,
+                table,
+            } = answer_by(asking.alloc, driver, request, mode, calls, source)?;
+            Ok(FilledAnswer {
+                rendered,
+                account: Costs::Rounds(account),
+                table,
+            })
+        }
+        Rounds::Csl => {
+            let FilledAnswer {
+                rendered,
+                account,
+                table,
+            } = answer_csl_by(asking.alloc, driver, request, calls, source)?;
+            Ok(FilledAnswer {
+                rendered,
+                account: Costs::Csl(account),
+                table,
+            })
+        }
+    }
+}
+
 /// Begins with an empty table and has the source write what is missing, until nothing is: after
-/// three calls more than rounds mark the answer has to be that of the layouts, and all that they
-/// wrote has to be asked for.
+/// three calls more than rounds mark, or five where works are told apart as CSL 1.0.2 has it, the
+/// answer has to be that of the layouts, and all that they wrote has to be asked for.
 pub fn fill_from(
     asking: &Asking<'_, '_>,
     whole: &Table,
@@ -70,8 +109,7 @@ pub fn fill_from(
     let driver = filled_driver(asking.alloc, &job.requests, asking.files, job.offset)?;
     let request = bibliography_request(asking.alloc, job, asking.files)?;
     let source = WrittenBefore { table: whole };
-    let calls = calls_at_most(answer.1.rounds);
-    match answer_by(asking.alloc, &driver, &request, job.rounds, calls, &source) {
+    match filled(asking, &driver, &request, calls_at_most(&answer.1), &source) {
         Ok(filled) => Ok(compared(&filled, whole, answer)),
         Err(FillError::Driver(error)) => Err(error.into()),
         Err(FillError::Unsettled) => Ok(Seen::Amiss("there is no answer after so many calls")),
@@ -79,7 +117,7 @@ pub fn fill_from(
     }
 }
 
-fn compared(filled: &FilledAnswer<'_, PlainEntry>, whole: &Table, answer: &Answer<'_>) -> Seen {
+fn compared(filled: &FilledAnswer<Costs<'_>>, whole: &Table, answer: &Answer<'_>) -> Seen {
     if !has_all(whole, &filled.table) {
         Seen::Amiss("not all was job for")
     } else if filled.rendered == answer.0 && is_same(&filled.account, &answer.1) {

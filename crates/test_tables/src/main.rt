@@ -10,6 +10,7 @@
 #![tactic(auto)]
 
 mod by_table;
+mod costs;
 mod filling;
 mod hosting;
 mod printing;

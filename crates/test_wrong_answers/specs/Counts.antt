@@ -14,6 +14,7 @@ one_cite n = record {
     locale = None;
     hidden = false;
     purpose = None;
+    apart = None;
     place = 0;
   }
       ∷ [];

@@ -42,6 +42,7 @@ asked_cite n =
       locale = None;
       hidden = false;
       purpose = None;
+      apart = None;
       place = 0;
     }
 

@@ -90,6 +90,7 @@ sample_cite n number tree = record {
   hidden = false;
   locale = None;
   purpose = None;
+  apart = None;
   verdict = None;
 }
 

@@ -117,8 +117,8 @@ def test_a_status_of_a_later_library_is_told(made_up):
 
 
 @pytest.mark.parametrize('document, pointer, found, wanted, message', [
-    ({**EMPTY, 'rounds': 'all'}, '/rounds', 'a text', 'one of three, full',
-     '/rounds: a text, "all"; wanted is one of three, full'),
+    ({**EMPTY, 'rounds': 'all'}, '/rounds', 'a text', 'one of three, full, csl',
+     '/rounds: a text, "all"; wanted is one of three, full, csl'),
     ({**EMPTY, 'entries': {}}, '/entries', 'an object', 'a list',
      '/entries: an object; wanted is a list'),
     ({**EMPTY, 'offset': -1}, '/offset', 'a number',

@@ -135,16 +135,16 @@ def test_suffixes_follow_the_bibliography(render):
     assert list(told.bibliography.values()) == ['Doe 1999a. Title a', 'Doe 1999b. Title b']
 
 
-def test_no_two_works_that_read_alike_have_one_suffix(render):
-    """Names tell two pairs of works, in which a suffix takes the place of names
-    (docs/DIFFERENCES.md), so that all four read alike but for it."""
+def test_names_that_are_added_stay_where_a_suffix_is_needed(render):
+    """CSL: names tell two pairs of works, each of which reads alike but for its suffixes."""
     others = {'d': 'Tanaka', 'c': 'Olsen', 'b': 'Tanaka', 'a': 'Olsen'}
     entries = [entry(key, 'Miller', name, 'Kim', year=2018) for key, name in others.items()]
     attributes = ('disambiguate-add-names="true" disambiguate-add-year-suffix="true" '
                   'et-al-min="3" et-al-use-first="1"')
     told = render(BOTH, entries, *[[other] for other in others], attributes=attributes,
                   bibliography=BY_TITLE)
-    assert told.citations == [f'(Miller et al. 2018{other})' for other in others]
+    assert told.citations == ['(Miller, Tanaka, et al. 2018b)', '(Miller, Olsen, et al. 2018b)',
+                              '(Miller, Tanaka, et al. 2018a)', '(Miller, Olsen, et al. 2018a)']
 
 
 TITLE_IF_NEEDED = (f'{NAMES}<choose><if disambiguate="true">'
@@ -152,7 +152,7 @@ TITLE_IF_NEEDED = (f'{NAMES}<choose><if disambiguate="true">'
 
 
 def test_the_condition_disambiguate_holds_for_all_works_that_read_alike(render):
-    """CSL: also for the first of them, which the driver leaves as it is (docs/DIFFERENCES.md)."""
+    """CSL: also for the first of them."""
     works = [entry('one', 'Doe'), entry('two', 'Doe'), entry('three', 'Roe'), entry('four', 'Doe')]
     told = render(TITLE_IF_NEEDED, works, ['one'], ['two'], ['three'], ['one', 'four'])
     assert told.citations == ['(Doe, Title one)', '(Doe, Title two)', '(Roe)',
@@ -209,7 +209,17 @@ def test_no_cite_is_ibid_after_a_citation_of_several(render):
                   style_class='note', layout_attributes='delimiter="; "',
                   attributes='near-note-distance="0"')
     assert told.citations == ['first Title one; first Title two', 'subsequent Title two',
-                              'subsequent ibid Title two; subsequent ibid Title two']
+                              'subsequent ibid Title two; subsequent ibid near-note Title two']
+
+
+def test_no_cite_is_ibid_behind_a_note_that_cites_other_works(render):
+    """Two citations of one note, each with a cite alone: what reads ibid in the next note would be
+    of the second alone."""
+    layout = f'{POSITIONS}<text variable="title"/>'
+    told = render(layout, [entry('one'), entry('two')], [{'id': 'one', 'note': 1}],
+                  [{'id': 'two', 'note': 1}], [{'id': 'two', 'note': 2}], style_class='note',
+                  attributes='near-note-distance="0"', layout_attributes='')
+    assert told.citations == ['first Title one', 'first Title two', 'subsequent Title two']
 
 
 def test_what_reads_ibid_is_not_ambiguous(render):
@@ -275,12 +285,12 @@ COLLAPSE = 'disambiguate-add-year-suffix="true" collapse="{}" after-collapse-del
 
 
 @pytest.mark.parametrize('collapse, text', [
-    ('year', '(Doe 1999a, 1999b, 2004, 5 / Roe 2000)'),
+    ('year', '(Doe 1999a / 1999b / 2004, 5 / Roe 2000)'),
     ('year-suffix', '(Doe 1999a; b, 2004, 5 / Roe 2000)'),
 ])
 def test_years_are_collapsed(render, collapse, text):
     """CSL: cite-group-delimiter is a comma by default, and year-suffix-delimiter the delimiter of
-    the layout."""
+    the layout. By `year` the after-collapse delimiter stands beside locators (docs/CSL_MODE.md)."""
     entries = [entry('one', 'Doe', year=1999), entry('two', 'Doe', year=1999),
                entry('three', 'Doe', year=2004), entry('four', 'Roe', year=2000)]
     layout = f'<group delimiter=", ">{BOTH}<text variable="locator"/></group>'
@@ -305,11 +315,23 @@ def test_a_group_of_a_number_and_no_locator_is_written(render):
     assert told.citations == ['[1]', '[1, 4]']
 
 
-def test_cites_with_words_of_their_own_are_not_collapsed(render):
+def test_no_cites_collapse_across_words(render):
+    """What stands before the first of them stands before all."""
     entries = [entry('one', 'Doe', year=1999), entry('two', 'Doe', year=2004)]
     told = render(BOTH, entries, [{'id': 'one', 'prefix': 'see '}, 'two'],
-                  attributes='collapse="year"')
-    assert told.citations == ['(see Doe 1999; Doe 2004)']
+                  ['one', {'id': 'two', 'prefix': 'but '}],
+                  [{'id': 'one', 'suffix': ', passim'}, 'two'], attributes='collapse="year"')
+    assert told.citations == ['(see Doe 1999, 2004)', '(Doe 1999; but Doe 2004)',
+                              '(Doe 1999, passim; Doe 2004)']
+
+
+def test_suffixes_collapse_beside_other_years(render):
+    """Only the cite with words of its own stands apart, and a suffix is behind its year again."""
+    entries = [entry(key, 'Doe', year=year)
+               for key, year in (('a', 1999), ('b', 1999), ('c', 1999), ('d', 2004))]
+    told = render(BOTH, entries, ['a', 'b', 'c', 'd', {'id': 'a', 'prefix': 'but '}],
+                  attributes='disambiguate-add-year-suffix="true" collapse="year-suffix-ranged"')
+    assert told.citations == ['(Doe 1999a–c, 2004; but Doe 1999a)']
 
 
 # The bibliography

@@ -69,6 +69,27 @@ def test_ambiguous_cites_get_suffixes_and_given_names_and_collapse(driver):
         ('three', 'John Doe 1999')]
 
 
+def test_where_rounds_is_csl_names_and_suffixes_are_told_together(driver):
+    """Jane and John are told by their given names, and the works of Jane by suffixes beside them, in
+    the order of the bibliography. A cite with a locator keeps its year."""
+    told = []
+
+    def noting(task):
+        told.append((task.state, task.names, task.suffix))
+        return write(task)
+
+    asked = document([{'entry': 'two'}, {'entry': 'four'},
+                      {'entry': 'one', 'locator': ['page', '4']}], [{'entry': 'three'}],
+                     rounds='csl')
+    asked['bibliography']['order'] = ['one', 'two', 'four', 'three']
+    answer = gamhilon.render_with(asked, noting)
+    assert texts(answer) == ['(Jane Doe 1999b, 1999a, 4; Roe 1999)', '(John Doe 1999)']
+    assert [(item.key, gamhilon.plain(item.content)) for item in answer.bibliography.items] == [
+        ('one', 'Jane Doe 1999a'), ('two', '——— 1999b'), ('four', 'Roe 1999'),
+        ('three', 'John Doe 1999')]
+    assert (None, ('full',), 1) in told and all(state is None for state, _, _ in told)
+
+
 def test_each_task_is_written_once(driver):
     seen = []
 
@@ -179,6 +200,9 @@ def test_notes_and_positions(driver):
      'purpose': 'prose', 'verdict': 'date'},
     {'kind': 'cite', 'style': 's', 'locale': 'en-US', 'entry': 'e', 'number': 3,
      'state': {'names': ['short', 'count']}},
+    {'kind': 'cite', 'style': 's', 'locale': 'en-US', 'entry': 'e', 'number': 3, 'place': [0, 0],
+     'names': ['initials', 'count'], 'choose': True, 'suffix': 0},
+    {'kind': 'date', 'style': 's', 'locale': 'en-US', 'entry': 'e', 'place': [0, 1], 'suffix': 2},
 ])
 def test_a_task_is_the_value_that_the_driver_asked_for(data):
     task = gamhilon.Task.of(data)
@@ -201,6 +225,14 @@ def test_a_state_is_told_by_the_properties_of_a_task():
     assert [(task.disambiguates, task.name_forms, task.year_suffix)
             for task in (plain, chosen, named)] == [
                 (False, None, ''), (True, None, ''), (False, ('full',), '')]
+
+
+def test_means_are_told_by_the_properties_of_a_task():
+    alone = gamhilon.Task('date', 's', 'en-US', 'e', suffix=1)
+    several = gamhilon.Task('cite', 's', 'en-US', 'e', names=('full',), choose=True, suffix=0)
+    assert [(task.disambiguates, task.name_forms, task.year_suffix)
+            for task in (alone, several)] == [
+                (False, None, 'b'), (True, ('full',), 'a')]
 
 
 @pytest.mark.parametrize('first, repeats, position', [

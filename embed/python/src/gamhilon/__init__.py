@@ -143,7 +143,8 @@ def render_with(document: Dict[str, Any], write: Writer) -> Answer:
     document has in `written` isn't asked for.
 
     The document is handed in again with what was written, in all at most three times more than
-    rounds of disambiguation mark. Raises as `drive_once` does, and what `write` raises."""
+    rounds of disambiguation mark, or five times where its `rounds` is `csl`. Raises as `drive_once`
+    does, and what `write` raises."""
     return render_with_all(document, lambda tasks: [write(task) for task in tasks])
 
 

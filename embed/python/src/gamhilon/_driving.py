@@ -46,6 +46,10 @@ class Task:
     What doesn't apply is None or False. `locale` is the locale in use, `number` counts from 0.
     `place` is there where a cite is written for the last time: the places of its request and of its
     item, from 0. Cites that are compared have none, and no locator.
+
+    `state` is what disambiguates the entry by one means at a time. Where `rounds` is `csl` means
+    are taken together, and stand in `names` (a form for each of its first names), `choose` and
+    `suffix` in place of a state. `name_forms`, `disambiguates` and `year_suffix` tell of both.
     """
 
     kind: str
@@ -61,6 +65,9 @@ class Task:
     number: Optional[int] = None
     locator: Optional[Tuple[str, str]] = None
     state: Optional[State] = None
+    names: Optional[Tuple[str, ...]] = None
+    choose: bool = False
+    suffix: Optional[int] = None
     usage: Optional[str] = None
     purpose: Optional[str] = None
     verdict: Optional[str] = None
@@ -69,7 +76,7 @@ class Task:
     def of(cls, data: Dict[str, Any]) -> Task:
         """The task that a value says, as the driver asks for it."""
         told = dict(data)
-        for key in ('place', 'locator'):
+        for key in ('place', 'locator', 'names'):
             if key in told:
                 told[key] = tuple(told[key])
         if 'state' in told:
@@ -80,7 +87,7 @@ class Task:
         """The task as a value, as the driver asked for it."""
         told = {key: value for key, value in vars(self).items() if value is not None
                 and value is not False}
-        for key in ('place', 'locator'):
+        for key in ('place', 'locator', 'names'):
             if key in told:
                 told[key] = list(told[key])
         if self.state is not None:
@@ -105,19 +112,22 @@ class Task:
     @property
     def disambiguates(self) -> bool:
         """Whether the condition `disambiguate` of the style holds."""
-        return self.state is not None and self.state.choose
+        return self.choose or (self.state is not None and self.state.choose)
 
     @property
     def name_forms(self) -> Optional[Tuple[str, ...]]:
         """The least form of each of the first names, where names disambiguate the entry."""
+        if self.names is not None:
+            return self.names
         return self.state.names if self.state else None
 
     @property
     def year_suffix(self) -> str:
         """The letters of the year suffix (`a` to `z`, then `aa`), or an empty text."""
-        if self.state is None or self.state.suffix is None:
+        suffix = self.state.suffix if self.suffix is None and self.state else self.suffix
+        if suffix is None:
             return ''
-        letters, left = '', self.state.suffix + 1
+        letters, left = '', suffix + 1
         while left:
             left, place = divmod(left - 1, 26)
             letters = chr(ord('a') + place) + letters

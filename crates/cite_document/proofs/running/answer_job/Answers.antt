@@ -19,8 +19,8 @@ returns c =
     c.in_ok-driver.ensures.filled
     ∙ (λ i. record { requests = accepted (asked_requests_view (map locale_view (c.in_ok-files.ensures i)) (c.deref.ensures.value i)); offset = job.offset }) in
     let wanted : w ≡ wanted_of d = c.in_ok-request.ensures ∙ (λ i. record (wanted_of d) { locales = map locale_view (c.in_ok-files.ensures i) }) in
-    let a = has_answer v w d made wanted c.in_ok-rendered.ensures.finished.possible in
-    (d, refl, (a, is_answer v w d made wanted job.rounds c.in_ok-rendered.rendered refl c.in_ok-rendered.ensures.finished.answer.exact.ok))
+    let a = has_answer v w d made wanted c.in_ok-rendered.ensures.possible in
+    (d, refl, (a, is_answer v w d made wanted job.rounds c.in_ok-rendered.rendered refl c.in_ok-rendered.ensures.answer))
 
 pub returns-in_err-rendered : goal.returns-in_err-rendered
 returns-in_err-rendered c =
@@ -32,5 +32,5 @@ returns-in_err-rendered c =
     c.in_ok-driver.ensures.filled
     ∙ (λ i. record { requests = accepted (asked_requests_view (map locale_view (c.in_ok-files.ensures i)) (c.deref.ensures.value i)); offset = job.offset }) in
     let wanted : w ≡ wanted_of d = c.in_ok-request.ensures ∙ (λ i. record (wanted_of d) { locales = map locale_view (c.in_ok-files.ensures i) }) in
-    let h = refused-with v w d made wanted (λ x. x) d refl c.in_err-rendered.field-0.0 c.in_err-rendered.ensures.finished.refused in
+    let h = refused-with v w d made wanted (λ x. x) d refl c.in_err-rendered.field-0.0 c.in_err-rendered.ensures.refused in
     search (rules, h)

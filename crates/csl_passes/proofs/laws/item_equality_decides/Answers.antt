@@ -17,15 +17,17 @@ returns g c a b =
     let one : (x y : SpecificLocator g.row.P.Denot) → test x y ≡ same_locators g.P.PartialEq.eq (Some (locator_view x)) (Some (locator_view y)) = search rules in
     let locators = some_locators g.P.PartialEq.eq test one a.locator b.locator in
     let codes = some_seen codes_told in
-    let purposes = option_told c.state_equality_decides.ensures.purpose a.purpose b.purpose in (
-      λ e. let p = both _ _ e in let q = both _ _ p.1 in let r = both _ _ q.1 in let s = both _ _ r.1 in let t = both _ _ s.1 in
+    let purposes = option_told c.state_equality_decides.ensures.purpose a.purpose b.purpose in
+    let aparts = option_told c.state_equality_decides.ensures.apart a.apart b.apart in (
+      λ e. let p = both _ _ e in let q = both _ _ p.1 in let r = both _ _ q.1 in let s = both _ _ r.1 in let t = both _ _ s.1 in let u = both _ _ t.1 in
           record {
             entry = p.0;
             locator = sym locators ∙ q.0;
             locale = (codes a.locale b.locale).0 r.0;
             hidden = (booleans_Decides a.hidden b.hidden).0 s.0;
             purpose = purposes.0 t.0;
-            place = (unsigned_Decides a.initial_idx b.initial_idx).0 t.1;
+            apart = aparts.0 u.0;
+            place = (unsigned_Decides a.initial_idx b.initial_idx).0 u.1;
           },
       λ e.
           and-true _ _ e.entry
@@ -33,5 +35,6 @@ returns g c a b =
           (and-true _ _ ((codes a.locale b.locale).1 e.locale)
           (and-true _ _ ((booleans_Decides a.hidden b.hidden).1 e.hidden)
           (and-true _ _ (purposes.1 e.purpose)
-          ((unsigned_Decides a.initial_idx b.initial_idx).1 e.place))))),
+          (and-true _ _ (aparts.1 e.apart)
+          ((unsigned_Decides a.initial_idx b.initial_idx).1 e.place)))))),
     )

@@ -12,5 +12,6 @@ returns g c = λ a b h.
     let locale = some_code_copied any a.locale b.locale h.1.1.0 in
     let hidden : b.hidden ≡ a.hidden = h.1.1.1.0 in
     let purpose : b.purpose ≡ a.purpose = search rules in
-    let place : b.initial_idx ≡ a.initial_idx = h.1.1.1.1.1 in
-    λ i. record { entry = (entry i).now; locator = option_map locator_view (locator i); locale = locale i; hidden = hidden i; purpose = purpose i; place = place i }
+    let apart : b.apart ≡ a.apart = search rules in
+    let place : b.initial_idx ≡ a.initial_idx = h.1.1.1.1.1.1 in
+    λ i. record { entry = (entry i).now; locator = option_map locator_view (locator i); locale = locale i; hidden = hidden i; purpose = purpose i; apart = apart i; place = place i }

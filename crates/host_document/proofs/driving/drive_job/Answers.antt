@@ -1,5 +1,5 @@
 -- What comes of the table, or why the driver refuses, is of the document.
-use Rattle.std.proofs.Common.{◌≡◌, map, refl, rules, ◌∙◌}
+use Rattle.std.proofs.Common.{◌≡◌, map, refl, rules, string_bytes, ◌∙◌}
 use Rattle.csl_style_values.specs.StyleView.{locale_view}
 use Rattle.csl_driver.specs.DriverView.{driver_view}
 use Rattle.csl_passes.specs.RequestView.{wanted_view}
@@ -23,10 +23,10 @@ returns c =
     ∙ (λ i. record { requests = accepted (asked_requests_view (map locale_view (c.in_ok-files.ensures i)) (c.deref.ensures.value i)); offset = job.offset }) in
     let wanted : w ≡ wanted_of d = c.in_ok-request.ensures ∙ (λ i. record (wanted_of d) { locales = map locale_view (c.in_ok-files.ensures i) }) in
     let x : DrivenDocument = record { document = d; table = found c.args.table.now } in
-    (x, refl, (c.in_ok-driven.driven, comes v w d made wanted (found c.args.table.now) job.rounds c.in_ok-driven.driven c.in_ok-driven.ensures.driven, c.in_ok-driven_text.ensures))
+    (x, refl, comes v w d made wanted (found c.args.table.now) job.rounds (string_bytes c.in_ok-text.text) c.in_ok-text.ensures.told)
 
-pub returns-in_err-driven : goal.returns-in_err-driven
-returns-in_err-driven c =
+pub returns-in_err-text : goal.returns-in_err-text
+returns-in_err-text c =
     let v = driver_view c.in_ok-driver.driver in
     let w = wanted_view c.in_ok-request.request in
     let job = c.args.job.now in
@@ -36,5 +36,5 @@ returns-in_err-driven c =
     ∙ (λ i. record { requests = accepted (asked_requests_view (map locale_view (c.in_ok-files.ensures i)) (c.deref.ensures.value i)); offset = job.offset }) in
     let wanted : w ≡ wanted_of d = c.in_ok-request.ensures ∙ (λ i. record (wanted_of d) { locales = map locale_view (c.in_ok-files.ensures i) }) in
     let x : DrivenDocument = record { document = d; table = found c.args.table.now } in
-    let h = refused-for v w d made wanted (λ y. y.document) x refl c.in_err-driven.field-0.0 c.in_err-driven.ensures.refused in
+    let h = refused-for v w d made wanted (λ y. y.document) x refl c.in_err-text.field-0.0 c.in_err-text.ensures.refused in
     search (rules, h)

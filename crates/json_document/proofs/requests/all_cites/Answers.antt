@@ -7,5 +7,5 @@ use Rattle.json_document.proofs.requests.all_cites.Goals as goal
 
 pub loop-place-preserved : goal.loop-place-preserved
 loop-place-preserved c =
-    Progress-pushed (item_form (entry_in c.args.entries.now)) asked_cite_view _ _ _ _ _ _
+    Progress-pushed (item_form (entry_in c.args.entries.now) c.args.rounds) asked_cite_view _ _ _ _ _ _
     c.loop-place-test.true c.index-items-place.is c.in-Ok.ensures.read c.in_ok-push-in-Ok.ensures.items c.loop-place.invariant

@@ -6,4 +6,4 @@ use Rattle.json_values.proofs.Progress.{Progress}
 use Rattle.json_document.proofs.requests.all_cites.Given as goal
 
 abbrev pub invariant-loop-place : goal.invariant-loop-place
-invariant-loop-place l = Progress (item_form (entry_in l.entries)) l.items l.place (asked_cites_view l.cites.items)
+invariant-loop-place l = Progress (item_form (entry_in l.entries) l.rounds) l.items l.place (asked_cites_view l.cites.items)

@@ -9,5 +9,5 @@ use Rattle.json_document.proofs.requests.all_requests.Goals as goal
 
 pub loop-place-preserved : goal.loop-place-preserved
 loop-place-preserved c =
-    Progress-pushed (request_form (style_in c.args.styles.now) (entry_in c.args.entries.now) (map locale_view c.args.locales.now)) (asked_request_view (map locale_view c.args.locales.now)) _ _ _ _ _ _
+    Progress-pushed (request_form (style_in c.args.styles.now) (entry_in c.args.entries.now) c.args.rounds (map locale_view c.args.locales.now)) (asked_request_view (map locale_view c.args.locales.now)) _ _ _ _ _ _
     c.loop-place-test.true c.index-items-place.is c.in-Ok.ensures.read c.in_ok-push-in-Ok.ensures.items c.loop-place.invariant

@@ -9,4 +9,4 @@ use Rattle.json_document.proofs.requests.all_requests.Given as goal
 
 abbrev pub invariant-loop-place : goal.invariant-loop-place
 invariant-loop-place l =
-    Progress (request_form (style_in l.styles) (entry_in l.entries) (map locale_view l.locales)) l.items l.place (asked_requests_view (map locale_view l.locales) l.requests.items)
+    Progress (request_form (style_in l.styles) (entry_in l.entries) l.rounds (map locale_view l.locales)) l.items l.place (asked_requests_view (map locale_view l.locales) l.requests.items)

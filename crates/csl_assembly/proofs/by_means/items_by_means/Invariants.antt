@@ -1,0 +1,24 @@
+use Rattle.std.proofs.Common.{◌≡◌, ◌++◌, drop, map, take}
+use Rattle.std.specs.List.{filter_map, zip}
+use Rattle.csl_passes.specs.RendersView.{renders_view}
+use Rattle.csl_passes.specs.Request.{wanted_source}
+use Rattle.csl_passes.specs.RequestView.{wanted_view}
+use Rattle.csl_substitution.specs.ItemView.{rendered_items_view}
+use Rattle.csl_assembly.specs.BibliographyItems.{item_by}
+use Rattle.csl_assembly.specs.ByMeans.{cite_with_means, task_by, tasks_by_means}
+use Rattle.csl_writers.specs.Desk.{after, desk}
+use Rattle.csl_writers.specs.Writing.{writing_of}
+use Rattle.csl_assembly.proofs.by_means.items_by_means.Given as goal
+
+abbrev pub invariant-loop-k : goal.invariant-loop-k
+invariant-loop-k g l =
+    let source = wanted_source (wanted_view l.wanted.wanted.now) in
+    let cites = renders_view l.cites in
+    let pairs = zip l.firsts l.means in
+    let writing = writing_of g.T.EntryLike.answers (g.W.CiteWriter.state l.fn.writer) in
+    record {
+      items : rendered_items_view l.items.items ++ map (λ p. item_by writing (task_by source p)) (filter_map (cite_with_means cites) (drop l.k pairs))
+          ≡ map (λ p. item_by writing (task_by source p)) (filter_map (cite_with_means cites) pairs);
+      asked : desk (g.W.CiteWriter.state l.writer) l.counter
+          ≡ after (tasks_by_means source (filter_map (cite_with_means cites) (take l.k pairs))) (desk (g.W.CiteWriter.state l.fn.writer) l.fn.counter);
+    }

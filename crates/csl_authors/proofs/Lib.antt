@@ -1,0 +1,4 @@
+pub mod Stepping
+pub mod Beginning
+pub mod Writing
+pub mod Repeating

@@ -1,0 +1,4 @@
+pub mod Blocks
+pub mod Firsts
+pub mod Years
+pub mod Collapsed

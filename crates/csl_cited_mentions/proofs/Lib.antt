@@ -1,0 +1,3 @@
+pub mod AskedFor
+pub mod Cites
+pub mod WritingOn

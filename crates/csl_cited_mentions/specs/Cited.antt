@@ -1,0 +1,81 @@
+-- Mentions as cites that a writer is asked for.
+use Rattle.std.specs.Prelude.{◌≡◌, ℕ, None, if◌then◌else◌}
+use Rattle.csl_lookup.specs.Properties.{Properties}
+use Rattle.csl_lookup.specs.PropertiesView.{properties_view}
+use Rattle.csl_lookup.specs.SourceView.{source_view}
+use Rattle.csl_mentions.specs.declared.state.MentionState.{MentionState}
+use Rattle.csl_mentions.specs.declared.written.Written.{Written}
+use Rattle.csl_tables.specs.Asked.{MentionsWriter, asked_as, is_told}
+use Rattle.csl_tables.specs.declared.writer.WrittenMention.{WrittenMention}
+use Rattle.csl_writers.specs.Counted.{counted}
+use Rattle.csl_writers.specs.Tasks.{CiteTaskValue, cite_task}
+use Rattle.csl_writers.specs.Writing.{WriterState}
+use Rattle.csl_writers.specs.declared.cite.Cite.{Cite}
+use Rattle.csl_cited_mentions.specs.Kept.{written_mention}
+use Rattle.csl_cited_mentions.specs.ToldMeans.{with_means}
+use Rattle.csl_cited_mentions.specs.declared.kept.KeptOfMention.{KeptOfMention}
+use Rattle.csl_cited_mentions.specs.declared.kept.Noted.{Noted}
+use Rattle.csl_cited_mentions.specs.declared.mention.CiteMention.{CiteMention}
+
+module _ {E P : Type 0} where
+  -- a mention by these properties: it has neither a purpose nor a verdict, and no place
+  abbrev pub with_properties : CiteMention E P → Properties P → CiteTaskValue E P
+  with_properties m properties = record {
+    source = source_view m.source;
+    entry = m.entry.now;
+    properties = properties;
+    purpose = None;
+    verdict = None;
+    place = None;
+  }
+
+  -- where nothing tells it apart
+  abbrev pub first_task : CiteMention E P → CiteTaskValue E P
+  first_task m = with_properties m (properties_view m.properties.now)
+
+-- a writer writes and notes as another one, whatever was noted before
+pub record WritesOn {E P N : Type 0} (w v : WriterState E P N) : Type 0 where
+  pub cite : v.cite ≡ w.cite
+  pub item : v.item ≡ w.item
+  pub date : v.date ≡ w.date
+  pub noting : v.noting ≡ w.noting
+
+module _ {E P : Type 0} (cite : CiteTaskValue E P → Cite) where
+  -- a cite that is written in a state: where that tells it apart, with the usage that it noted
+  -- where nothing did
+  abbrev pub task_again : CiteTaskValue E P → MentionState → CiteTaskValue E P
+  task_again t state =
+      if is_told state
+      then record t { properties = with_means t.properties state (cite t).identifier_usage }
+      else t
+
+  -- what is written then
+  abbrev pub written_again : CiteTaskValue E P → MentionState → WrittenMention KeptOfMention
+  written_again t state = written_mention (cite (task_again t state))
+
+  -- what is read of it, and what is kept
+  abbrev pub reading_of : CiteTaskValue E P → MentionState → Written
+  reading_of t state = (written_again t state).read
+
+  abbrev pub keeping_of : CiteTaskValue E P → MentionState → KeptOfMention
+  keeping_of t state = (written_again t state).kept
+
+  -- the task of a mention
+  abbrev pub task_in : CiteMention E P → MentionState → CiteTaskValue E P
+  task_in m = task_again (first_task m)
+
+module _ {E P N : Type 0} (w : WriterState E P N) where
+  -- cites that are written in states, so many of which were counted
+  abbrev pub cites : ℕ → MentionsWriter (CiteTaskValue E P) KeptOfMention (Noted N)
+  cites count = record {
+    write = written_again w.cite;
+    noting = λ p noted. record {
+      notes = w.noting (cite_task (task_again w.cite p.0 p.1)) noted.notes;
+      count = counted noted.count;
+    };
+    notes = record { notes = w.notes; count = count };
+  }
+
+  -- mentions that are written as these
+  abbrev pub cited : ℕ → MentionsWriter (CiteMention E P) KeptOfMention (Noted N)
+  cited count = asked_as first_task (cites count)

@@ -1,0 +1,4 @@
+pub mod Kept
+pub mod ToldMeans
+pub mod Cited
+pub mod WritesOn

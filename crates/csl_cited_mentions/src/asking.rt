@@ -1,0 +1,98 @@
+//! A writer of cites that is asked for mentions.
+ghost use Rattle.std.specs.Prelude.{◌≡◌, ◌∷◌, [], IfOk, OnOk};
+ghost use Rattle.csl_lookup.specs.PropertiesView.{properties_view};
+ghost use Rattle.csl_writers.specs.Desk.{after, desk};
+ghost use Rattle.csl_writers.specs.Tasks.{cite_task};
+ghost use Rattle.csl_tables.specs.Asked.{is_told};
+ghost use Rattle.csl_cited_mentions.specs.Cited.{with_properties};
+ghost use Rattle.csl_cited_mentions.specs.Kept.{written_mention};
+
+use crate::kept::{KeptOfMention, Noted, written_mention};
+use crate::means::with_means;
+use crate::mention::CiteMention;
+use csl_base::entry::EntryLike;
+use csl_lookup::properties::CiteProperties;
+use csl_mentions::state::MentionState;
+use csl_tables::writer::{WrittenBy, WrittenMention};
+use csl_writers::asking::written_cite;
+use csl_writers::counter::Renders;
+use csl_writers::task::CiteTask;
+use csl_writers::writer::CiteWriter;
+use std::alloc::Global;
+
+/// Whether something tells a mention apart.
+fn is_told(state: &MentionState) -> bool
+    ensures { result ≡ is_told state.now }
+{
+    state.chosen || state.names.is_some()
+}
+
+/// A mention as the writer writes it by these properties.
+fn written_by<T: EntryLike, P, W: CiteWriter<T, P>>(
+    alloc: Global,
+    mention: &CiteMention<'_, '_, T, P>,
+    properties: &CiteProperties<'_, P>,
+    writer: &mut W,
+    counter: &mut Renders,
+) -> Result<WrittenMention<KeptOfMention>, W::Error>
+    ensures written { IfOk result (λ w. w ≡ written_mention ((W.state writer.old).cite
+        (with_properties mention.now (properties_view properties.now)))) }
+    ensures asked { OnOk result (desk (W.state writer.new) counter.new
+        ≡ after (cite_task (with_properties mention.now (properties_view properties.now)) ∷ [])
+        (desk (W.state writer.old) counter.old)) }
+{
+    let task = CiteTask {
+        source: mention.source,
+        entry: mention.entry,
+        properties,
+        purpose: None,
+        verdict: None,
+        place: None,
+    };
+    let cite = written_cite(alloc, task, writer, counter)?;
+    Ok(written_mention(alloc, &cite)?)
+}
+
+impl<'t, 'p, T: EntryLike, P: Drop, W: CiteWriter<T, P>> WrittenBy<W, Renders>
+    for CiteMention<'t, 'p, T, P> {
+    ghost use Rattle.csl_cited_mentions.specs.Cited.{WritesOn, cited};
+    ghost use Rattle.csl_cited_mentions.specs.WritesOn.{writes-on-further, writes-on-itself};
+
+    type Error = W::Error;
+
+    type Kept = KeptOfMention;
+
+    type Notes = Noted<W::Note>;
+
+    ghost writing = { λ w n. cited (W.state w) n };
+
+    ghost goes_on = { λ w v. WritesOn (W.state w) (W.state v) };
+
+    ghost stays = { λ w. writes-on-itself (W.state w) };
+
+    ghost follows = { λ u v w first second. writes-on-further first second };
+
+    fn write_first(
+        &self,
+        alloc: Global,
+        writer: &mut W,
+        counter: &mut Renders,
+    ) -> Result<WrittenMention<KeptOfMention>, W::Error> {
+        written_by(alloc, self, self.properties, writer, counter)
+    }
+
+    fn write_again(
+        &self,
+        alloc: Global,
+        told: &MentionState,
+        first: &KeptOfMention,
+        writer: &mut W,
+        counter: &mut Renders,
+    ) -> Result<WrittenMention<KeptOfMention>, W::Error> {
+        if !is_told(told) {
+            return written_by(alloc, self, self.properties, writer, counter);
+        }
+        let properties = with_means(self.properties, told, first.usage)?;
+        written_by(alloc, self, &properties, writer, counter)
+    }
+}

@@ -1,0 +1,61 @@
+//! The means by which a mention is told from others, as a writer of cites is told them.
+ghost use Rattle.std.specs.Prelude.{◌≡◌, IfOk, None};
+ghost use Rattle.csl_cited_mentions.specs.ToldMeans.{means_of, with_means};
+ghost use Rattle.csl_lookup.specs.PropertiesView.{properties_view};
+
+use csl_lookup::means::Means;
+use csl_lookup::properties::{CiteProperties, SpeculativeCiteProperties};
+use csl_lookup::state::IdentifierUsage;
+use csl_mentions::state::MentionState;
+use csl_values::names::NameDisambiguationProperties;
+use std::alloc::AllocError;
+
+fn copied_names(
+    names: &Option<NameDisambiguationProperties>,
+) -> Result<Option<NameDisambiguationProperties>, AllocError>
+    ensures { IfOk result (λ n. n ≡ names.now) }
+{
+    match names {
+        Some(names) => Ok(Some(names.clone()?)),
+        None => Ok(None),
+    }
+}
+
+/// The means of a mention in this state, whose entry has this suffix.
+///
+/// # Errors
+///
+/// Where memory is refused.
+pub fn means_of(told: &MentionState, suffix: Option<usize>) -> Result<Means, AllocError>
+    ensures { IfOk result (λ m. m ≡ means_of told.now suffix) }
+{
+    Ok(Means {
+        names: copied_names(&told.names)?,
+        choose: told.chosen,
+        suffix,
+    })
+}
+
+/// The properties of a mention that is written again in this state, with the usage that its first
+/// writing noted.
+pub(crate) fn with_means<'p, P: Drop>(
+    properties: &CiteProperties<'p, P>,
+    told: &MentionState,
+    usage: IdentifierUsage,
+) -> Result<CiteProperties<'p, P>, AllocError>
+    ensures { IfOk result (λ p. properties_view p
+        ≡ with_means (properties_view properties.now) told.now usage) }
+{
+    let speculative = &properties.speculative;
+    Ok(CiteProperties {
+        certain: properties.certain,
+        speculative: SpeculativeCiteProperties {
+            locator: speculative.locator.clone()?,
+            citation_number: speculative.citation_number,
+            ibid: speculative.ibid,
+            disambiguation: speculative.disambiguation.clone()?,
+            means: means_of(told, None)?,
+            identifier_usage: usage,
+        },
+    })
+}

@@ -1,0 +1,130 @@
+-- Cites that are brought together stand block by block.
+use Rattle.std.proofs.Common.{◌≡◌, ℕ, zero, suc, ◌+◌, ◌<◌, ◌≤◌, Bool, true, false, cond, Option, Some, None, List, [], ◌∷◌, ◌++◌, All, filter, flat_map, length, map, refl, ap, sym, subst, ◌∙◌, arith, append-nil, append_assoc, true≢false}
+use Rattle.std.specs.Prelude.{filter_map, if◌then◌else◌, nat_eq, nat_lt, option_map, slice_get, zip}
+use Rattle.std.specs.List.{AllZip, cons_option, range_with_len}
+use Rattle.std.proofs.Math.ListN.{length-map}
+use Rattle.std.proofs.lemmas.Bool.Decides.{nat_tests}
+use Rattle.std.proofs.lemmas.List.{map-append}
+use Rattle.std.proofs.lemmas.List.Elements.{All-head, All-tail}
+use Rattle.csl_arranging.specs.Order.{alone, final_order, final_request, grouped_cite, handed_order, is_grouped}
+use Rattle.csl_arranging.specs.Requests.{Request as Arranged}
+use Rattle.csl_arranging.specs.declared.request.CiteStyle.{CiteStyle}
+use Rattle.csl_arranging.specs.declared.request.FinalCite.{FinalCite}
+use Rattle.csl_arranging.specs.declared.request.RequestedCite.{RequestedCite as PlainCite}
+use Rattle.csl_blocks.specs.Blocks.{block, block_order, placed_cites}
+use Rattle.csl_blocks.specs.declared.blocks.GroupedCite.{GroupedCite}
+use Rattle.csl_blocks.specs.declared.blocks.PlacedCite.{PlacedCite}
+use Rattle.csl_blocks.proofs.Placing.{blocks-within}
+use Rattle.csl_driver.specs.AnswerLaws.{places_of}
+use Rattle.csl_driver.specs.CslCitations.{StandInBlocks}
+use Rattle.csl_driver.proofs.CslOnce.{AreWhole, IsWhole, first-of-both, handed-within, handed_at, place_of, places-ordered}
+use Rattle.csl_grouping.specs.Laws.{StandsTogether}
+use Rattle.csl_lookup.specs.Properties.{LocatorValue}
+use Rattle.csl_notes.specs.declared.notes.CiteNotes.{CiteNotes}
+use Rattle.csl_passes.specs.Renders.{CiteRender}
+use Rattle.csl_passes.specs.Request.{RequestedCite, Request}
+use Rattle.csl_requested_mentions.specs.Handed.{cite_counts}
+use Rattle.csl_told_cites.specs.Cites.{ToldValue, told_at, told_cite, told_cites, told_request}
+use Rattle.csl_told_cites.specs.Requests.{plain_request, plain_requests}
+use Rattle.csl_told_cites.specs.declared.mentions.ToldMention.{ToldMention}
+use Rattle.csl_told_laws.proofs.Placing.{ends-there}
+
+-- ---- a part of a list of parts
+
+module _ {X : Type 0} (part : ℕ → List X) where
+  part-within : (a n k : ℕ) → a ≤ k → k < a + n
+      → (before : List X) × (after : List X) × (flat_map part (range_with_len a n) ≡ before ++ (part k ++ after))
+  part-within a zero k low high = absurd (omega (arith, low, high))
+  part-within a (suc n) k low high = by (nat_eq a k) refl (λ above. part-within (a + 1) n k above (omega (arith, high)))
+    where
+      by : (b : Bool) → nat_eq a k ≡ b
+          → (a + 1 ≤ k → (before : List X) × (after : List X) × (flat_map part (range_with_len (a + 1) n) ≡ before ++ (part k ++ after)))
+          → (before : List X) × (after : List X) × (part a ++ flat_map part (range_with_len (a + 1) n) ≡ before ++ (part k ++ after))
+      by true e more =
+          let same : a ≡ k = grind (arith, nat_tests) in
+          ([], flat_map part (range_with_len (a + 1) n), ap (λ j. part j ++ flat_map part (range_with_len (a + 1) n)) same)
+      by false e more =
+          let above : a + 1 ≤ k = grind (arith, nat_tests) in
+          let rest = more above in
+          (part a ++ rest.0, rest.1, ap (λ l. part a ++ l) rest.2 ∙ sym (append_assoc (part a) rest.0 (part k ++ rest.1)))
+
+module _ (cites : List GroupedCite) where
+  -- no block begins behind all cites
+  none-there : (k n : ℕ) (ps : List PlacedCite) → n ≤ k → All (λ (c : PlacedCite). c.block < n) ps → filter (λ (c : PlacedCite). nat_eq k c.block) ps ≡ []
+  none-there k n [] low h = refl
+  none-there k n (p ∷ ps) low h =
+      let here : p.block < n = All-head (λ (c : PlacedCite). c.block < n) p ps h in
+      ap (λ b. cond b (p ∷ filter (λ (c : PlacedCite). nat_eq k c.block) ps) (filter (λ (c : PlacedCite). nat_eq k c.block) ps)) (apart k p.block n here low)
+      ∙ none-there k n ps low (All-tail (λ (c : PlacedCite). c.block < n) p ps h)
+    where
+      apart : (k b n : ℕ) → b < n → n ≤ k → nat_eq k b ≡ false
+      apart k b n lt le = grind (arith, nat_tests)
+
+  together : (k : ℕ) → StandsTogether (map place_of (block_order cites)) (map place_of (block cites k))
+  together k = by (nat_lt k (length cites)) refl
+    where
+      all : List ℕ
+      all = map place_of (block_order cites)
+
+      by : (b : Bool) → nat_lt k (length cites) ≡ b → StandsTogether (map place_of (block_order cites)) (map place_of (block cites k))
+      by true e =
+          let within : k < length cites = grind (arith, nat_tests) in
+          let parts = part-within (block cites) 0 (length cites) k (omega arith) (omega (arith, within)) in (
+            map place_of parts.0,
+            map place_of parts.1,
+            ap (map place_of) parts.2 ∙ map-append place_of parts.0 (block cites k ++ parts.1) ∙ ap (λ l. map place_of parts.0 ++ l) (map-append place_of (block cites k) parts.1),
+          )
+      by false e =
+          let past : length cites ≤ k = grind (arith, nat_tests) in
+          (all, [], sym (append-nil all) ∙ ap (λ l. all ++ (map place_of l ++ [])) (sym (none-there k (length cites) (placed_cites cites) past (blocks-within cites))))
+
+as-handed : (a n : ℕ) → map place_of (map alone (range_with_len a n)) ≡ range_with_len a n
+as-handed a zero = refl
+as-handed a (suc n) = ap (λ l. a ∷ l) (as-handed (a + 1) n)
+
+module _ {L : Type 0} (style : CiteStyle) (cites : List (PlainCite L)) where
+  order-in-blocks : StandInBlocks (is_grouped style) (map grouped_cite cites) (map place_of (final_order style cites))
+  order-in-blocks = by (is_grouped style)
+    where
+      by : (b : Bool) → StandInBlocks b (map grouped_cite cites) (map place_of (if b then block_order (map grouped_cite cites) else handed_order (length cites)))
+      by true = record { together = λ e k. together (map grouped_cite cites) k; as_handed_in = λ e. absurd (true≢false e) }
+      by false = record {
+        together = λ e k. absurd (true≢false (sym e));
+        as_handed_in = λ e. as-handed 0 (length cites) ∙ ap (range_with_len 0) (sym (length-map cites grouped_cite));
+      }
+
+-- ---- of all requests
+
+module _ {E P : Type 0} (told : ToldValue) where
+  places-told : (r : Request E P) (notes : List CiteNotes) → length notes ≡ length r.cites → (fs : List (FinalCite (LocatorValue P))) → All (λ f. handed_at f < length r.cites) fs
+      → places_of (filter_map (told_at told r notes) fs) ≡ map handed_at fs
+  places-told r notes long [] h = refl
+  places-told r notes long (f ∷ fs) h = by (slice_get (zip r.cites notes) f.placed.place) refl (places-told r notes long fs (All-tail (λ f. handed_at f < length r.cites) f fs h))
+    where
+      by : (o : Option (RequestedCite E P × CiteNotes)) → slice_get (zip r.cites notes) f.placed.place ≡ o → places_of (filter_map (told_at told r notes) fs) ≡ map handed_at fs
+          → places_of (cons_option (option_map (λ p. told_cite told r.note_number f.cite.entry f.placed.place p.0 p.1) o) (filter_map (told_at told r notes) fs)) ≡ f.placed.place ∷ map handed_at fs
+      by None e more =
+          absurd (omega (arith, ends-there (zip r.cites notes) f.placed.place e, All-head (λ f. handed_at f < length r.cites) f fs h, first-of-both r.cites notes long))
+      by (Some p) e more = ap (λ l. f.placed.place ∷ l) more
+
+  module _ (mentions : List ToldMention) (suffixes : List (Option ℕ)) (eq : E → E → Bool) (listed : List E) where
+    abbrev InBlocks : Arranged (PlainCite (LocatorValue P)) → CiteRender E P → Type 0
+    InBlocks r ordered = StandInBlocks (is_grouped r.facts.style) (map grouped_cite r.cites) (places_of ordered.items)
+
+    row-in-blocks : (r : Request E P) (n : List CiteNotes) → length n ≡ length r.cites
+        → let plain = plain_request mentions suffixes eq listed r n in IsWhole r (final_request plain) → InBlocks plain (told_request told r n (final_request plain).cites)
+    row-in-blocks r n long whole =
+        let plain = plain_request mentions suffixes eq listed r n in
+        let fs = (final_request plain).cites in
+        let places : places_of (filter_map (told_at told r n) fs) ≡ map place_of (final_order plain.facts.style plain.cites) =
+        places-told r n long fs (handed-within (length r.cites) fs whole) ∙ places-ordered plain.facts.style plain.cites in
+        subst (StandInBlocks (is_grouped plain.facts.style) (map grouped_cite plain.cites)) (sym places) (order-in-blocks plain.facts.style plain.cites)
+
+    pub rows-in-blocks : (rs : List (Request E P)) (ns : List (List CiteNotes)) → map length ns ≡ cite_counts rs
+        → let plains = plain_requests mentions suffixes eq listed rs ns in AreWhole rs (map final_request plains) → AllZip InBlocks plains (told_cites told rs ns (map final_request plains))
+    rows-in-blocks [] ns h w = tt
+    rows-in-blocks (r ∷ rs) [] h w = tt
+    rows-in-blocks (r ∷ rs) (n ∷ ns) h w =
+        let first : length n ≡ length r.cites = cc in
+        let later : map length ns ≡ cite_counts rs = cc in
+        (row-in-blocks r n first w.0, rows-in-blocks rs ns later w.1)

@@ -1,0 +1,78 @@
+-- How many cites there are where works are told apart as CSL has it: as many as the requests have.
+use Rattle.std.proofs.Common.{◌≡◌, ℕ, suc, ◌+◌, Bool, List, [], ◌∷◌, Option, length, map, refl, sym, ◌∙◌}
+use Rattle.std.specs.List.{AllZip, range_with_len, sum_by, zip}
+use Rattle.std.specs.List.Sorted.{IsPermutation}
+use Rattle.std.proofs.lemmas.List.{length-append, length-map}
+use Rattle.std.proofs.lemmas.List.Concat.{length-flat_map}
+use Rattle.std.proofs.lemmas.List.Sums.{sum_by-cons}
+use Rattle.csl_arranging.specs.Arranged.{arranged_cites}
+use Rattle.csl_arranging.specs.Requests.{Request as Arranged}
+use Rattle.csl_arranging.specs.declared.arranged.ArrangedCite.{ArrangedCite}
+use Rattle.csl_arranging.specs.declared.request.FinalCite.{FinalCite}
+use Rattle.csl_lookup.specs.Properties.{LocatorValue}
+use Rattle.csl_notes.specs.Notes.{all_notes}
+use Rattle.csl_passes.specs.Renders.{CiteRender}
+use Rattle.csl_passes.specs.Request.{Request, cites_of}
+use Rattle.csl_requested_mentions.specs.Handed.{cite_counts, handed_cite, handed_cites}
+use Rattle.csl_requested_mentions.proofs.Cutting.{parts-counted}
+use Rattle.csl_requested_mentions.proofs.Handing.{notes-count}
+use Rattle.csl_tables.specs.Steps.{all_changed}
+use Rattle.csl_told_cites.specs.Arranging.{arranged_by, arranged_request}
+use Rattle.csl_told_cites.specs.Requests.{plain_requests}
+use Rattle.csl_told_cites.specs.declared.mentions.ToldMention.{ToldMention}
+use Rattle.csl_told_cites.proofs.Whole.{finals-once, plain-lengths, told-lengths}
+use Rattle.csl_writers.specs.Writing.{Writing}
+use Rattle.csl_driver.specs.Answer.{Job}
+use Rattle.csl_driver.specs.CslAnswer.{cite_notes, cites_arranged, cites_in_order, entry_suffixes, known, listed, numbers_in_the_end, ordered, ordered_by, same_locator, shown_mentions}
+use Rattle.csl_driver.proofs.Sizes.{size, sum-same}
+
+-- arranging keeps how many there are
+changed-length : {C X : Type 0} (f : C → X → X) (cs : List C) (xs : List X) → length (all_changed f cs xs) ≡ length xs
+changed-length f [] xs = refl
+changed-length f (c ∷ cs) [] = refl
+changed-length f (c ∷ cs) (x ∷ xs) = λ i. suc (changed-length f cs xs i)
+
+module _ {E P L : Type 0} (numbers : List ℕ) where
+  sizes-stay : (zs : List (Arranged (FinalCite L) × List ArrangedCite)) (cs : List (CiteRender E P)) → sum_by size (all_changed (arranged_request numbers) zs cs) ≡ sum_by size cs
+  sizes-stay [] cs = refl
+  sizes-stay (z ∷ zs) [] = refl
+  sizes-stay (z ∷ zs) (c ∷ cs) =
+      sum_by-cons size (arranged_request numbers z c) (all_changed (arranged_request numbers) zs cs)
+      ∙ (λ i. changed-length (arranged_by numbers c.request.style.citation) (zip z.0.cites z.1) c.items i + sizes-stay zs cs i)
+      ∙ sym (sum_by-cons size c cs)
+
+all-sizes : {E P : Type 0} (rs : List (Request E P)) (cs : List (CiteRender E P)) → map size cs ≡ cite_counts rs → sum_by size cs ≡ length (cites_of rs)
+all-sizes [] [] h = refl
+all-sizes [] (c ∷ cs) h = cc
+all-sizes (r ∷ rs) [] h = cc
+all-sizes {E} {P} (r ∷ rs) (c ∷ cs) h =
+    let own : length c.items ≡ length r.cites = cc in
+    let others : map (λ (d : CiteRender E P). length d.items) cs ≡ cite_counts rs = cc in
+    sum_by-cons size c cs ∙ (λ i. own i + all-sizes rs cs others i) ∙ sym (length-append r.cites (cites_of rs))
+
+module _ {E P : Type 0} (eq : E → E → Bool) (job : Job E P) where
+  -- something is known of each cite
+  pub notes-counted : map length (cite_notes eq job) ≡ cite_counts job.requests
+  notes-counted =
+      let handed = handed_cite eq (listed eq job) in
+      parts-counted job.requests (all_notes (handed_cites eq (listed eq job) job.requests))
+      (notes-count (handed_cites eq (listed eq job) job.requests) ∙ length-flat_map (λ r. map (handed r) r.cites) job.requests
+      ∙ sum-same (λ r. length (map (handed r) r.cites)) (λ r. length r.cites) (λ r. length-map r.cites (handed r)) job.requests
+      ∙ sym (length-flat_map (λ r. r.cites) job.requests))
+
+  -- each cite of a request stands once in its final order
+  pub ordered-once : (mentions : List ToldMention) (suffixes : List (Option ℕ))
+      → AllZip (λ (r : Request E P) (f : Arranged (FinalCite (LocatorValue P))). IsPermutation (range_with_len 0 (length r.cites)) (map (λ (c : FinalCite (LocatorValue P)). c.placed.place) f.cites)) job.requests
+      (ordered_by eq job mentions suffixes)
+  ordered-once mentions suffixes =
+      finals-once job.requests (plain_requests mentions suffixes eq (listed eq job) job.requests (cite_notes eq job))
+      (plain-lengths mentions suffixes eq (listed eq job) job.requests (cite_notes eq job) notes-counted)
+
+  -- there are as many as the requests have
+  pub arranged-size : (writing : Writing E P) (payload_eq : P → P → Bool) → sum_by size (cites_arranged eq job writing payload_eq) ≡ length (cites_of job.requests)
+  arranged-size writing payload_eq =
+      let numbers = numbers_in_the_end eq job writing in
+      let finals = ordered eq job writing in
+      sizes-stay numbers (zip finals (arranged_cites (same_locator payload_eq) numbers finals)) (cites_in_order eq job writing)
+      ∙ all-sizes job.requests (cites_in_order eq job writing)
+      (told-lengths (known eq job writing) job.requests (cite_notes eq job) finals notes-counted (ordered-once (shown_mentions eq job writing) (entry_suffixes eq job writing)))

@@ -1,0 +1,57 @@
+use Rattle.std.proofs.Common.{◌++◌, ◌∷◌, [], ap, map, refl, sym, take, ◌∙◌}
+use Rattle.std.proofs.lemmas.List.{take_all}
+use Rattle.csl_rounds.proofs.Pairs.{at_view, past_view, within_view}
+use Rattle.csl_style_values.specs.Ring.{HasNoRing}
+use Rattle.csl_assembly.specs.CitationTree.{citation_tasks}
+use Rattle.csl_assembly.specs.WithoutEmpty.{citation_without_empty}
+use Rattle.csl_driver.specs.CslAnswer.{told_citation, told_citations}
+use Rattle.csl_driver.specs.DraftView.{job_in}
+use Rattle.csl_driver.specs.WriterTasks.{last_tasks}
+use Rattle.csl_passes.specs.RendersView.{item_view, render_view, renders_view}
+use Rattle.csl_positions.proofs.FinalPlaces.{all-at}
+use Rattle.csl_writers.specs.Desk.{after, desk}
+use Rattle.csl_writers.specs.Writing.{writing_of}
+use Rattle.csl_writers.proofs.TasksDone.{after-then, writes-same}
+use Rattle.csl_driver.proofs.ByIndex.{all-more, each-more}
+use Rattle.csl_driver.proofs.Standing.{of-requests}
+use Rattle.csl_driver.proofs.draft.Draft.told_citations.Goals as goal
+
+pub invariant_of-request : goal.invariant_of-request
+invariant_of-request g c =
+    let cites = c.args.cites.now in
+    let acyclic = of-requests (λ r. HasNoRing r.style.macros) (renders_view cites) (job_in c.args.self).requests c.requires.cites c.args.self.requests.no_ring in
+    record { no_ring = all-at (λ r. HasNoRing r.request.style.macros) render_view cites c.loop-index.index c.index-cites-index.result acyclic c.loop-index-test.true c.index-cites-index.is }
+
+pub loop-index-preserved : goal.loop-index-preserved
+loop-index-preserved g c =
+    let answers = g.T.EntryLike.answers in
+    let cites = c.args.cites.now in
+    let views = renders_view cites in
+    let k = c.loop-index.index in
+    let cite = render_view c.index-cites-index.result in
+    let within = within_view render_view {xs = cites} k refl c.loop-index-test.true in
+    let here = at_view render_view {xs = cites} k refl c.index-cites-index.result c.index-cites-index.is in
+    let begun = desk (g.W.CiteWriter.state c.args.writer.now) c.args.counter.now in
+    let before = desk (g.W.CiteWriter.state c.loop-index.writer) c.loop-index.counter in
+    let was = c.loop-index.invariant in
+    let same = writes-same answers (last_tasks (take k views)) begun before was.asked in
+    let tree = c.in_ok-tree.ensures.tree ∙ (λ i. citation_without_empty (same i) k (record cite { items = map item_view (c.deref.ensures.value i) })) in
+    record {
+      citations = c.in_ok-push.ensures
+          ∙ (λ i. was.citations i ++ (record { note_number = c.note_number.ensures i; citation = tree i }) ∷ [])
+          ∙ sym (each-more views k cite within here (told_citation (writing_of answers (g.W.CiteWriter.state c.args.writer.now))));
+      asked = after-then (last_tasks (take k views)) (citation_tasks k cite) begun before _ was.asked (c.in_ok-tree.ensures.asked ∙ (λ i. after (citation_tasks k (record cite { items = map item_view (c.deref.ensures.value i) })) before))
+          ∙ sym (ap (λ ts. after ts begun) (all-more views k cite within here citation_tasks));
+    }
+
+pub returns-clause-citations : goal.returns-clause-citations
+returns-clause-citations g c =
+    c.loop-index.invariant.citations
+    ∙ ap (told_citations (writing_of g.T.EntryLike.answers (g.W.CiteWriter.state c.args.writer.now)))
+    (take_all c.loop-index.index (renders_view c.args.cites.now) (past_view render_view {xs = c.args.cites.now} c.loop-index.index refl c.loop-index-test.false))
+
+pub returns-clause-asked : goal.returns-clause-asked
+returns-clause-asked g c =
+    c.loop-index.invariant.asked
+    ∙ ap (λ cs. after (last_tasks cs) (desk (g.W.CiteWriter.state c.args.writer.now) c.args.counter.now))
+    (take_all c.loop-index.index (renders_view c.args.cites.now) (past_view render_view {xs = c.args.cites.now} c.loop-index.index refl c.loop-index-test.false))

@@ -1,0 +1,152 @@
+-- The whole answer where works are told apart as CSL 1.0.2 has it, from the whole list of requests.
+use Rattle.std.specs.Prelude.{ℕ, Bool, false, List, [], Option, Some, map, option_map, slice_get, unwrap_or}
+use Rattle.std.specs.List.{enumerate_from, filter_map}
+use Rattle.csl_arranging.specs.Arranged.{arranged_cites}
+use Rattle.csl_arranging.specs.Order.{final_request}
+use Rattle.csl_arranging.specs.Requests.{Request as Arranged}
+use Rattle.csl_arranging.specs.declared.request.FinalCite.{FinalCite}
+use Rattle.csl_assembly.specs.ByMeans.{bibliography_by_means}
+use Rattle.csl_assembly.specs.WithoutEmpty.{citation_without_empty}
+use Rattle.csl_assembly.specs.declared.by_means.ItemMeans.{ItemMeans}
+use Rattle.csl_assembly.specs.declared.rendered.Rendered.{Rendered}
+use Rattle.csl_assembly.specs.declared.rendered.RenderedCitation.{RenderedCitation}
+use Rattle.csl_cited_mentions.specs.Cited.{keeping_of, reading_of}
+use Rattle.csl_cited_mentions.specs.declared.kept.KeptOfMention.{KeptOfMention}
+use Rattle.csl_entries.specs.Entries.{number}
+use Rattle.csl_lookup.specs.Properties.{LocatorValue}
+use Rattle.csl_mentions.specs.declared.state.MentionState.{MentionState}
+use Rattle.csl_mentions.specs.declared.written.Written.{Written}
+use Rattle.csl_notes.specs.declared.notes.CiteNotes.{CiteNotes}
+use Rattle.csl_passes.specs.Positions.{same_locators}
+use Rattle.csl_passes.specs.Renders.{CiteRender, ItemRender}
+use Rattle.csl_passes.specs.Request.{wanted_source}
+use Rattle.csl_positions.specs.FinalProperties.{first_item}
+use Rattle.csl_requested_mentions.specs.Handed.{notes_of_cites}
+use Rattle.csl_requested_mentions.specs.Mentions.{mentions_of}
+use Rattle.csl_tables.specs.Asked.{untold}
+use Rattle.csl_tables.specs.Tables.{kept_again, kept_at_first, texts_told, third_table, year_suffixes}
+use Rattle.csl_tables.specs.declared.subject.Subject.{Subject}
+use Rattle.csl_told_cites.specs.Arranging.{arranged_finally}
+use Rattle.csl_told_cites.specs.Cites.{ToldValue, told_cites}
+use Rattle.csl_told_cites.specs.Mentions.{mention_index, suffix_number, told_mentions}
+use Rattle.csl_told_cites.specs.Requests.{plain_requests}
+use Rattle.csl_told_cites.specs.declared.mentions.ToldMention.{ToldMention}
+use Rattle.csl_writers.specs.Tasks.{CiteTaskValue}
+use Rattle.csl_writers.specs.Writing.{Writing}
+use Rattle.csl_driver.specs.Answer.{Job, entries_listed, numbered_finally, used_order}
+
+-- the same locator: of one kind and with one payload
+abbrev pub same_locator : {P : Type 0} → (P → P → Bool) → LocatorValue P → LocatorValue P → Bool
+same_locator payload_eq a b = same_locators payload_eq (Some a) (Some b)
+
+-- the means of an item, by the index of its entry: the choice of its later mention, and its suffix
+abbrev pub item_means : List MentionState → List (Option ℕ) → ℕ → ItemMeans
+item_means states suffixes k = record {
+  choose = (unwrap_or (slice_get states (mention_index k false)) untold).chosen;
+  suffix = suffix_number suffixes k;
+}
+
+module _ {E P : Type 0} where
+  -- the first cites of these entries, each with the means of its item
+  abbrev pub listed_cites : (E → E → Bool) → (ℕ → ItemMeans) → List (CiteRender E P) → List E
+      → List (ItemRender E P × ItemMeans)
+  listed_cites eq means cites entries =
+      filter_map (λ p. option_map (λ i. (i, means p.0)) (first_item eq cites p.1))
+      (enumerate_from 0 entries)
+
+  module _ (writing : Writing E P) where
+    -- the answer to the r-th request, from its cites as they are arranged
+    abbrev pub told_citation : ℕ → CiteRender E P → RenderedCitation
+    told_citation r c = record {
+      note_number = c.request.note_number;
+      citation = citation_without_empty writing r c;
+    }
+
+    -- the answers to all
+    abbrev pub told_citations : List (CiteRender E P) → List RenderedCitation
+    told_citations cites = map (λ c. told_citation c.0 c.1) (enumerate_from 0 cites)
+
+module _ {E P : Type 0} (eq : E → E → Bool) (job : Job E P) where
+  -- the entries of the bibliography
+  abbrev pub listed : List E
+  listed = entries_listed eq job.wanted job.requests
+
+  -- what is known of each cite by those before it
+  abbrev pub cite_notes : List (List CiteNotes)
+  cite_notes = notes_of_cites eq listed job.requests
+
+  -- the two mentions of each entry
+  abbrev pub mentions : List (Subject (CiteTaskValue E P))
+  mentions = mentions_of eq job.offset listed job.requests
+
+  -- the requests, their cites in the final order, where this is known of mentions and suffixes
+  abbrev pub ordered_by : List ToldMention → List (Option ℕ)
+      → List (Arranged (FinalCite (LocatorValue P)))
+  ordered_by told suffixes =
+      map final_request (plain_requests told suffixes eq listed job.requests cite_notes)
+
+  -- the numbers of the entries of the bibliography in the end, by these cites in the final order
+  abbrev pub numbers_by : List (CiteRender E P) → List ℕ
+  numbers_by cites = map
+      (number eq job.offset (numbered_finally eq (used_order job.wanted) job.requests cites)) listed
+
+  module _ (writing : Writing E P) where
+    -- what is read of a mention that is written in a state, and what is kept of it
+    abbrev pub read : CiteTaskValue E P → MentionState → Written
+    read = reading_of writing.cite
+
+    abbrev pub keep : CiteTaskValue E P → MentionState → KeptOfMention
+    keep = keeping_of writing.cite
+
+    -- what tells each mention apart, and the year suffix of each entry
+    abbrev pub states : List MentionState
+    states = third_table read mentions
+
+    abbrev pub entry_suffixes : List (Option ℕ)
+    entry_suffixes = year_suffixes read mentions
+
+    -- what is known of each mention then
+    abbrev pub shown_mentions : List ToldMention
+    shown_mentions = told_mentions (kept_at_first keep mentions) (kept_again keep mentions states)
+        (texts_told read mentions)
+
+    -- what is known of mentions and entries; no entry has its number yet
+    abbrev pub known : ToldValue
+    known = record {
+      states = states;
+      mentions = shown_mentions;
+      suffixes = entry_suffixes;
+      numbers = [];
+    }
+
+    -- the requests, their cites in the final order
+    abbrev pub ordered : List (Arranged (FinalCite (LocatorValue P)))
+    ordered = ordered_by shown_mentions entry_suffixes
+
+    -- and these cites, of which nothing is written yet
+    abbrev pub cites_in_order : List (CiteRender E P)
+    cites_in_order = told_cites known job.requests cite_notes ordered
+
+    -- the numbers of the entries in the end
+    abbrev pub numbers_in_the_end : List ℕ
+    numbers_in_the_end = numbers_by cites_in_order
+
+    module _ (payload_eq : P → P → Bool) where
+      -- the cites as they are arranged: with their positions and numbers, and collapsed
+      abbrev pub cites_arranged : List (CiteRender E P)
+      cites_arranged = arranged_finally numbers_in_the_end ordered
+          (arranged_cites (same_locator payload_eq) numbers_in_the_end ordered) cites_in_order
+
+      -- the first cites of the bibliography's entries, each with the means of its item
+      abbrev pub told_first_cites : List (ItemRender E P × ItemMeans)
+      told_first_cites = listed_cites eq (item_means states entry_suffixes) cites_arranged listed
+
+      -- the whole answer: one citation for each request, and the bibliography where the style that
+      -- was asked for has one
+      abbrev pub rendered_csl : Rendered
+      rendered_csl = record {
+        bibliography = option_map
+            (λ b. bibliography_by_means writing (wanted_source job.wanted) b told_first_cites)
+            job.wanted.style.bibliography;
+        citations = told_citations writing cites_arranged;
+      }

@@ -1,0 +1,32 @@
+-- For the code: mentions that were told apart, and cites whose locators are lent by requests.
+use Rattle.std.specs.Prelude.{◌≡◌, Bool, List, map}
+use Rattle.std.specs.Borrow.{Bor}
+use Rattle.csl_arranging.specs.Requests.{Request as Arranged}
+use Rattle.csl_arranging.specs.declared.request.FinalCite.{FinalCite}
+use Rattle.csl_cited_mentions.specs.declared.kept.KeptOfMention.{KeptOfMention}
+use Rattle.csl_lookup.specs.Properties.{LocatorValue}
+use Rattle.csl_lookup.specs.declared.locator.SpecificLocator.{SpecificLocator}
+use Rattle.csl_tables.specs.declared.tables.Told.{Told}
+use Rattle.csl_told_cites.specs.Mentions.{told_mentions}
+use Rattle.csl_told_cites.specs.Requests.{located}
+use Rattle.csl_writers.specs.Writing.{Writing}
+use Rattle.csl_driver.specs.Answer.{Job}
+use Rattle.csl_driver.specs.CslAnswer.{entry_suffixes, shown_mentions, states as told_states}
+
+-- what tells the mentions of a job apart
+pub record AreToldApart {E P : Type 0} (eq : E → E → Bool) (job : Job E P) (writing : Writing E P)
+    (t : Told KeptOfMention) : Type 0 where
+  pub states : t.states.items ≡ told_states eq job writing
+  pub suffixes : t.suffixes.items ≡ entry_suffixes eq job writing
+  pub mentions : told_mentions t.firsts.items t.again.items t.texts.items
+      ≡ shown_mentions eq job writing
+
+-- cites in the final order with their locators as plain data
+module _ {P : Type 0} where
+  abbrev pub located_finally : FinalCite (Bor (SpecificLocator P)) → FinalCite (LocatorValue P)
+  located_finally c = record { placed = c.placed; cite = located c.cite }
+
+  abbrev pub all_located : List (Arranged (FinalCite (Bor (SpecificLocator P))))
+      → List (Arranged (FinalCite (LocatorValue P)))
+  all_located =
+      map (λ r. record { facts = r.facts; cites = map located_finally r.cites })

@@ -1,0 +1,35 @@
+-- What a writer is asked for where works are told apart as CSL 1.0.2 has it.
+use Rattle.std.specs.Prelude.{Bool, List, ◌++◌, map}
+use Rattle.csl_assembly.specs.ByMeans.{tasks_by_means}
+use Rattle.csl_cited_mentions.specs.Cited.{task_again}
+use Rattle.csl_mentions.specs.declared.state.MentionState.{MentionState}
+use Rattle.csl_passes.specs.Request.{wanted_source}
+use Rattle.csl_tables.specs.Tables.{all_tasks}
+use Rattle.csl_writers.specs.Tasks.{CiteTaskValue, TaskValue, cite_task}
+use Rattle.csl_writers.specs.Writing.{Writing}
+use Rattle.csl_writers.specs.declared.cite.Cite.{Cite}
+use Rattle.csl_driver.specs.Answer.{Job}
+use Rattle.csl_driver.specs.CslAnswer.{cites_arranged, mentions, read, told_first_cites}
+use Rattle.csl_driver.specs.WriterTasks.{last_tasks, where_wanted}
+
+-- a mention in a state, as the cite that is written then
+abbrev pub state_task : {E P : Type 0} → (CiteTaskValue E P → Cite)
+    → CiteTaskValue E P × MentionState → TaskValue E P
+state_task cite p = cite_task (task_again cite p.0 p.1)
+
+module _ {E P : Type 0} (eq : E → E → Bool) (job : Job E P) (writing : Writing E P) where
+  -- where mentions are told apart: each, and again those that names or the choice changed
+  abbrev pub mention_tasks : List (TaskValue E P)
+  mention_tasks =
+      map (state_task writing.cite) (all_tasks (read eq job writing) (mentions eq job))
+
+  module _ (payload_eq : P → P → Bool) where
+    -- where the bibliography is written
+    abbrev pub told_item_tasks : List (TaskValue E P)
+    told_item_tasks = where_wanted job.wanted.style.bibliography
+        (tasks_by_means (wanted_source job.wanted) (told_first_cites eq job writing payload_eq))
+
+    -- all that is asked for: the mentions, the bibliography, the citations
+    abbrev pub csl_tasks : List (TaskValue E P)
+    csl_tasks = mention_tasks
+        ++ (told_item_tasks ++ last_tasks (cites_arranged eq job writing payload_eq))

@@ -1,0 +1,121 @@
+//! The whole answer where works are told apart as CSL 1.0.2 has it.
+ghost use Rattle.std.specs.Prelude.{◌≡◌, IfOk, OnOk, length, map};
+ghost use Rattle.csl_driver.specs.CslAnswer.{cite_notes, told_citations};
+ghost use Rattle.csl_driver.specs.CslParts.{AreToldApart};
+ghost use Rattle.csl_driver.specs.CslPromised.{IsExactlyCsl};
+ghost use Rattle.csl_driver.specs.CslTasks.{csl_tasks, mention_tasks};
+ghost use Rattle.csl_driver.specs.DraftView.{job_in};
+ghost use Rattle.csl_driver.specs.WriterTasks.{last_tasks};
+ghost use Rattle.csl_passes.specs.RendersView.{renders_view};
+ghost use Rattle.csl_requested_mentions.specs.Handed.{cite_counts};
+ghost use Rattle.csl_writers.specs.Desk.{after, desk};
+ghost use Rattle.csl_writers.specs.Writing.{asked_for, writing_of};
+
+use crate::csl_account::CslAccount;
+use crate::draft::Draft;
+use csl_assembly::rendered::{Rendered, RenderedCitation};
+use csl_assembly::without_empty::citation_without_empty;
+use csl_base::entry::EntryLike;
+use csl_base::seq::Seq;
+use csl_cited_mentions::kept::KeptOfMention;
+use csl_notes::notes::CiteNotes;
+use csl_passes::acyclic::AcyclicRequest;
+use csl_passes::renders::SpeculativeCiteRender;
+use csl_requested_mentions::handed::notes_of_cites;
+use csl_requested_mentions::homes::homes;
+use csl_requested_mentions::mentions::mentions;
+use csl_requested_mentions::properties::properties_of_mentions;
+use csl_tables::tables::{Told, tell_apart};
+use csl_writers::counter::Renders;
+use csl_writers::pushed::push;
+use csl_writers::writer::CiteWriter;
+use std::alloc::Global;
+
+impl<'d, 'o, 'a, T: EntryLike, P: Eq + Drop> Draft<'d, 'o, 'a, T, P> {
+    /// The answer, and its account. The mentions of all entries are told apart; by these the cites
+    /// are brought into their final order, numbered and collapsed; then the bibliography is
+    /// written, and the citations.
+    pub(crate) fn finish_csl<W: CiteWriter<T, P>>(
+        self,
+        alloc: Global,
+        writer: &mut W,
+    ) -> Result<(Rendered, CslAccount<'a, T>), W::Error>
+        ensures answer { IfOk result
+            (IsExactlyCsl T.eq P.eq (writing_of T.answers (W.state writer.old))
+            (job_in self.entry)) }
+        ensures asked { OnOk result (W.state writer.new
+            ≡ asked_for (csl_tasks T.eq (job_in self.entry)
+            (writing_of T.answers (W.state writer.old)) P.eq) (W.state writer.old)) }
+    {
+        let cited = self.cited;
+        let mut counter = Renders::new();
+        let requests = self.requests.requests;
+        let notes = notes_of_cites(alloc, requests, &cited.table, &cited.listing)?;
+        let told = self.told_apart(alloc, &notes, writer, &mut counter)?;
+        let (ordered, mut all) = self.cites_in_order(alloc, &notes, &told)?;
+        let cites: &mut [SpeculativeCiteRender<'d, 'a, T, P>] = &mut all.by_request;
+        let numbers = self.arranged(alloc, cites, &ordered)?;
+        let bibliography = self.told_bibliography(alloc, cites, &told, writer, &mut counter)?;
+        let citations = self.told_citations(alloc, cites, writer, &mut counter)?;
+        let account = self.csl_account(alloc, told, numbers, &counter)?;
+        let rendered = Rendered {
+            citations: Seq::new(citations),
+            bibliography,
+        };
+        Ok((rendered, account))
+    }
+
+    /// What tells the mentions of all entries apart, as this writer writes them. The notes are
+    /// those of the requests' cites.
+    fn told_apart<W: CiteWriter<T, P>>(
+        self,
+        alloc: Global,
+        notes: &[Vec<CiteNotes>],
+        writer: &mut W,
+        counter: &mut Renders,
+    ) -> Result<Told<KeptOfMention>, W::Error>
+        requires notes { map (λ n. n.items) notes.now ≡ cite_notes T.eq (job_in self) }
+        requires counts { map (λ n. length n.items) notes.now
+            ≡ cite_counts (job_in self).requests }
+        ensures told { IfOk result (AreToldApart T.eq (job_in self.entry)
+            (writing_of T.answers (W.state writer.old))) }
+        ensures asked { OnOk result (desk (W.state writer.new) counter.new
+            ≡ after (mention_tasks T.eq (job_in self.entry)
+            (writing_of T.answers (W.state writer.old))) (desk (W.state writer.old) counter.old)) }
+    {
+        let homes = homes(alloc, self.requests, &self.cited.listing, notes)?;
+        let properties = properties_of_mentions(alloc, &homes, self.cited.offset)?;
+        let mentions = mentions(alloc, &homes, &properties)?;
+        tell_apart(alloc, &mentions, writer, counter)
+    }
+
+    /// The citation of each request, from its cites as they are arranged.
+    fn told_citations<W: CiteWriter<T, P>>(
+        self,
+        alloc: Global,
+        cites: &[SpeculativeCiteRender<'_, '_, T, P>],
+        writer: &mut W,
+        counter: &mut Renders,
+    ) -> Result<Vec<RenderedCitation>, W::Error>
+        requires cites { map (λ c. c.request) (renders_view cites.now) ≡ (job_in self).requests }
+        ensures citations { IfOk result (λ v. v.items
+            ≡ told_citations (writing_of T.answers (W.state writer.old))
+            (renders_view cites.now)) }
+        ensures asked { OnOk result (desk (W.state writer.new) counter.new
+            ≡ after (last_tasks (renders_view cites.now)) (desk (W.state writer.old) counter.old)) }
+    {
+        let mut citations = Vec::with_capacity(alloc, cites.len())?;
+        for (index, cite) in cites.iter().enumerate() {
+            let request = AcyclicRequest {
+                request: cite.request,
+            };
+            let tree = citation_without_empty(alloc, request, index, &cite.items, writer, counter)?;
+            let citation = RenderedCitation {
+                note_number: cite.request.note_number(),
+                citation: tree,
+            };
+            push(&mut citations, citation)?;
+        }
+        Ok(citations)
+    }
+}

@@ -1,0 +1,114 @@
+//! The whole answer, from all requests at once, where works are told apart as CSL 1.0.2 has it.
+ghost use Rattle.std.specs.Prelude.{◌≡◌, OnOk, IfErr};
+ghost use Rattle.csl_driver.specs.CslPromised.{IsCslAnswer};
+ghost use Rattle.csl_driver.specs.CslTasks.{csl_tasks};
+ghost use Rattle.csl_driver.specs.JobView.{job_of};
+ghost use Rattle.csl_driver.specs.Promised.{Finishes, FinishesWith, WhereDriverRefuses};
+ghost use Rattle.csl_writers.specs.Writing.{asked_for, writing_of};
+ghost use Rattle.csl_writing.specs.LayoutWriting.{layout_writing};
+
+use crate::cited::Cited;
+use crate::csl_account::CslAccount;
+use crate::draft::Draft;
+use crate::driver::BibliographyDriver;
+use crate::error::{DriverError, FinishError};
+use crate::laws::csl_answers_keep_laws;
+use crate::rings::without_rings;
+use csl_assembly::rendered::Rendered;
+use csl_base::entry::EntryLike;
+use csl_passes::request::BibliographyRequest;
+use csl_writers::writer::CiteWriter;
+use csl_writing::layout_writer::LayoutWriter;
+
+impl<'a, T: EntryLike, P: Eq + Drop> BibliographyDriver<'a, T, P> {
+    /// Answers all requests: a citation for each, and the bibliography, where its style has one.
+    /// Works are told apart as CSL 1.0.2 has it (disambiguation); the account tells by what.
+    ///
+    /// Each entry has two mentions, the first and a later one, as its first cite in the requests is
+    /// written. Mentions of several entries that read alike are told apart by names, as the style
+    /// of each mention allows; then by the condition `disambiguate`, if they test it; and entries
+    /// whose later mentions still read alike get year suffixes, in the order of the bibliography.
+    /// Each of the three is tried once, and every cite reads by what tells its mention apart.
+    ///
+    /// Cites whose names are shown alike are grouped; years, suffixes and numbers collapse, but not
+    /// in a request with a purpose (CSL 1.0.2, cite grouping, cite collapsing). A cite of which
+    /// there is nothing to see isn't shown. Items of the bibliography are written without names of
+    /// the disambiguation; in these, authors that repeat are substituted.
+    ///
+    /// The renderings are two for each distinct entry; one for each mention that got other names,
+    /// and one for each whose condition holds; one for each cite, hidden or not; and, where there
+    /// is a bibliography, one for each of its entries.
+    ///
+    /// # Errors
+    /// `MacroRing` exactly where a style has macros that call each other in a ring;
+    /// `NumberOverflow` exactly where none has, and the offset and the number of distinct entries
+    /// together are above `usize::MAX`; `OutOfMemory` where memory runs out, at any point.
+    pub fn finish_csl(
+        self,
+        request: BibliographyRequest<'_, 'a, T>,
+    ) -> Result<(Rendered, CslAccount<'a, T>), DriverError>
+        ensures { Finishes
+            (IsCslAnswer T.eq P.eq (layout_writing T.answers) (job_of self.entry request.entry))
+            T.eq (job_of self.entry request.entry) result }
+    {
+        Ok(self.finish_csl_with(request, &mut LayoutWriter::new())?)
+    }
+
+    /// Answers all requests, as `finish_csl` does, with cites, items and dates as this writer
+    /// writes them. The account counts how often it was asked.
+    ///
+    /// # Errors
+    /// `Driver` where `finish_csl` refuses before anything is rendered, so that the writer wasn't
+    /// asked for anything; `Writer`, with the writer's own error, where it refuses, and where
+    /// memory runs out later on.
+    pub fn finish_csl_with<W: CiteWriter<T, P>>(
+        self,
+        request: BibliographyRequest<'_, 'a, T>,
+        writer: &mut W,
+    ) -> Result<(Rendered, CslAccount<'a, T>), FinishError<W::Error>>
+        ensures finished { FinishesWith T.eq (job_of self.entry request.entry)
+            (IsCslAnswer T.eq P.eq (writing_of T.answers (W.state writer.old))
+            (job_of self.entry request.entry)) result }
+        ensures asked { OnOk result (W.state writer.new
+            ≡ asked_for (csl_tasks T.eq (job_of self.entry request.entry)
+            (writing_of T.answers (W.state writer.old)) P.eq) (W.state writer.old)) }
+        ensures unasked { IfErr result
+            (WhereDriverRefuses (W.state writer.new ≡ W.state writer.old)) }
+    {
+        self.answer_csl_with(&request, writer)
+    }
+
+    /// Answers all requests, as this writer writes: rings are refused, the entries that are cited
+    /// are listed, and what is then known is finished.
+    ///
+    /// # Errors
+    /// Those of `finish_csl_with`.
+    pub fn answer_csl_with<W: CiteWriter<T, P>>(
+        &self,
+        request: &BibliographyRequest<'_, 'a, T>,
+        writer: &mut W,
+    ) -> Result<(Rendered, CslAccount<'a, T>), FinishError<W::Error>>
+        ensures finished { FinishesWith T.eq (job_of self.now request.now)
+            (IsCslAnswer T.eq P.eq (writing_of T.answers (W.state writer.old))
+            (job_of self.now request.now)) result }
+        ensures asked { OnOk result (W.state writer.new
+            ≡ asked_for (csl_tasks T.eq (job_of self.now request.now)
+            (writing_of T.answers (W.state writer.old)) P.eq) (W.state writer.old)) }
+        ensures unasked { IfErr result
+            (WhereDriverRefuses (W.state writer.new ≡ W.state writer.old)) }
+    {
+        let alloc = self.alloc;
+        let (requests, wanted) = without_rings(alloc, &self.citations, request)?;
+        let cited = Cited::by_requests(alloc, requests, wanted, self.citation_number_offset)?;
+        let draft = Draft {
+            requests,
+            wanted,
+            cited: &cited,
+        };
+        csl_answers_keep_laws::<T, P>();
+        match draft.finish_csl(alloc, writer) {
+            Ok(answer) => Ok(answer),
+            Err(error) => Err(FinishError::Writer(error)),
+        }
+    }
+}

@@ -1,0 +1,4 @@
+pub mod Classing
+pub mod Stepping
+pub mod Numbering
+pub mod Naming

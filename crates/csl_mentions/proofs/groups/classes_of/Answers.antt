@@ -1,0 +1,16 @@
+use Rattle.std.proofs.Common.{arith, subst, sym, take}
+use Rattle.std.proofs.lemmas.List.{length-take-le}
+use Rattle.csl_mentions.specs.Classes.{AreClassesOf}
+use Rattle.csl_mentions.proofs.Classing.{none-yet}
+use Rattle.csl_mentions.proofs.Stepping.{next}
+use Rattle.csl_mentions.proofs.groups.classes_of.Goals as goal
+
+pub loop-k-init : goal.loop-k-init
+loop-k-init c = none-yet c.new-classes.result c.new-classes.ensures.empty
+
+pub loop-k-preserved : goal.loop-k-preserved
+loop-k-preserved c =
+    let ms = c.args.mentions.now in
+    let k = c.loop-k.k in
+    subst (AreClassesOf c.add.new.classes) (sym (next ms k c.index-mentions-k.result c.loop-k-test.true c.index-mentions-k.is))
+    (c.in_ok-add.ensures (take k ms) (length-take-le k ms (omega arith)) c.loop-k.invariant)

@@ -1,0 +1,38 @@
+-- For the code: the mentions that were looked at, by their texts.
+use Rattle.std.specs.Prelude.{◌≡◌, ℕ, Bool, false, not, ◌&&◌, ◌||◌, List, Option, None, Some, bytes_eq, if◌then◌else◌, nat_eq, option_map}
+use Rattle.std.specs.HashMap.{HashMap, get}
+use Rattle.std.specs.List.{list_any}
+use Rattle.csl_mentions.specs.Groups.{first_with}
+use Rattle.csl_mentions.specs.declared.classes.Class.{Class}
+use Rattle.csl_mentions.specs.declared.mention.Mention.{Mention}
+
+-- once one that mentions this entry was added
+abbrev pub joined : ℕ → Class → Class
+joined entry c = record c { several = c.several || not (nat_eq c.entry entry) }
+
+-- the same of a mention at this index, also where it is the first
+abbrev pub class_with : ℕ → ℕ → Option Class → Class
+class_with k entry None = record { first = k; entry = entry; several = false }
+class_with k entry (Some c) = joined entry c
+
+-- another entry than this one is mentioned
+abbrev pub is_other : ℕ → Option Class → Bool
+is_other entry None = false
+is_other entry (Some c) = c.several || not (nat_eq c.entry entry)
+
+-- the index of the first mention, where another entry is mentioned
+abbrev pub first_if : Bool → Option Class → Option ℕ
+first_if other c = if other then option_map (λ c. c.first) c else None
+
+module _ {S : Type 0} where
+  -- of each text: the first mention, and whether there is one of another entry than any
+  pub record AreClassesOf (classes : HashMap (List ℕ) Class S) (mentions : List Mention)
+      : Type 0 where
+    pub first : (t : List ℕ) → option_map (λ c. c.first) (get bytes_eq classes t)
+        ≡ first_with mentions t
+    pub other : (t : List ℕ) (entry : ℕ) → is_other entry (get bytes_eq classes t)
+        ≡ list_any (λ m. bytes_eq t m.text && not (nat_eq entry m.entry)) mentions
+
+  abbrev pub group_found : HashMap (List ℕ) Class S → Mention → Option ℕ
+  group_found classes m = first_if (is_other m.entry (get bytes_eq classes m.text))
+      (get bytes_eq classes m.text)

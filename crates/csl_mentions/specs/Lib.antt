@@ -1,0 +1,5 @@
+pub mod Groups
+pub mod Classes
+pub mod Suffixes
+pub mod Counts
+pub mod Written

@@ -1,0 +1,91 @@
+//! What is known of the mentions that have a text.
+ghost use Rattle.std.specs.Prelude.{◌≡◌, ◌++◌, ◌∷◌, [], List, OnOk, Some, bytes_eq, length, option_map};
+ghost use Rattle.std.specs.HashMap.{get};
+ghost use Rattle.csl_mentions.specs.Classes.{AreClassesOf, class_with, first_if, group_found, is_other, joined};
+ghost use Rattle.csl_mentions.specs.declared.mention.Mention.{Mention as MentionValue};
+
+use crate::mention::Mention;
+use csl_lists::text::Text;
+use std::alloc::AllocError;
+use std::collections::HashMap;
+
+/// The mentions of a text.
+#[derive(Clone, Copy)]
+pub(crate) struct Class {
+    /// The index of the first of them.
+    pub(crate) first: usize,
+    /// The entry that it mentions.
+    pub(crate) entry: usize,
+    /// Whether another one mentions another entry.
+    pub(crate) several: bool,
+}
+
+/// The mentions that were looked at, by their texts.
+pub(crate) type Classes = HashMap<Text, Class>;
+
+/// What is known once one that mentions this entry was added.
+fn joined(class: &Class, entry: usize) -> Class
+    ensures { result ≡ joined entry class.now }
+{
+    Class {
+        first: class.first,
+        entry: class.entry,
+        several: class.several || class.entry != entry,
+    }
+}
+
+/// What is known of a mention's text once the mention was added, at index `k`.
+fn class_with(classes: &Classes, k: usize, mention: &Mention) -> Class
+    ensures { result ≡ class_with k mention.now.entry (get bytes_eq classes.now mention.now.text) }
+{
+    match classes.get(&mention.text) {
+        Some(class) => joined(class, mention.entry),
+        None => Class {
+            first: k,
+            entry: mention.entry,
+            several: false,
+        },
+    }
+}
+
+/// Adds the mention at index `k`.
+pub(crate) fn add(classes: &mut Classes, k: usize, mention: &Mention) -> Result<(), AllocError>
+    ensures { OnOk result ((before : List MentionValue) → length before ≡ k
+        → AreClassesOf classes.old before
+        → AreClassesOf classes.new (before ++ mention.now ∷ [])) }
+{
+    let class = class_with(classes, k, mention);
+    classes.insert(mention.text.clone()?, class)?;
+    Ok(())
+}
+
+/// The index of the first mention with this one's text.
+pub(crate) fn first_of(classes: &Classes, mention: &Mention) -> Option<usize>
+    ensures { result ≡ option_map (λ c. c.first) (get bytes_eq classes.now mention.now.text) }
+{
+    match classes.get(&mention.text) {
+        Some(class) => Some(class.first),
+        None => None,
+    }
+}
+
+/// The index of the first mention with this one's text, where another entry is mentioned by it.
+pub(crate) fn group_found(classes: &Classes, mention: &Mention) -> Option<usize>
+    ensures { result ≡ group_found classes.now mention.now }
+{
+    match classes.get(&mention.text) {
+        Some(class) => first_if_other(class, mention.entry),
+        None => None,
+    }
+}
+
+/// The index of the first mention of a class, where another entry than this one is mentioned.
+fn first_if_other(class: &Class, entry: usize) -> Option<usize>
+    ensures { result ≡ first_if (is_other entry (Some class.now)) (Some class.now) }
+{
+    if class.several || class.entry != entry {
+        Some(class.first)
+    } else {
+        None
+    }
+}

@@ -1,0 +1,10 @@
+//! Mentions of entries, which are compared where works are told apart as CSL 1.0.2 has it
+//! (disambiguation): the groups that read alike, and what tells them apart beside names.
+#![tactic(auto)]
+
+mod classes;
+pub mod groups;
+pub mod mention;
+pub mod state;
+pub mod suffixes;
+pub mod written;

@@ -1,0 +1,11 @@
+//! What tells a mention apart from others.
+use csl_values::names::NameDisambiguationProperties;
+
+/// What tells a mention apart from others, beside the year suffix, which is its entry's.
+#[derive(Clone, PartialEq, Eq, Drop)]
+pub struct MentionState {
+    /// The forms in which its names are written, if these aren't its style's own.
+    pub names: Option<NameDisambiguationProperties>,
+    /// Whether the condition `disambiguate` is made to hold.
+    pub chosen: bool,
+}

@@ -1,0 +1,10 @@
+pub mod Walking
+pub mod Handing
+pub mod Cutting
+pub mod Standing
+pub mod Gathering
+pub mod Firsts
+pub mod Telling
+pub mod Finding
+pub mod Pairing
+pub mod Picking

@@ -1,0 +1,33 @@
+-- Cites in the order in which they are handed in, and what is known of each by those before it.
+use Rattle.std.specs.Prelude.{ℕ, Bool, List, [], ◌∷◌, drop, flat_map, length, map, take}
+use Rattle.csl_entries.specs.Entries.{place}
+use Rattle.csl_notes.specs.Notes.{all_notes}
+use Rattle.csl_notes.specs.declared.notes.CiteNotes.{CiteNotes}
+use Rattle.csl_notes.specs.declared.notes.HandedCite.{HandedCite}
+use Rattle.csl_passes.specs.Request.{RequestedCite, Request}
+
+-- a list cut into parts of these lengths
+abbrev pub parts : {X : Type 0} → List ℕ → List X → List (List X)
+parts [] xs = []
+parts (n ∷ ns) xs = take n xs ∷ parts ns (drop n xs)
+
+-- how many cites each request has
+abbrev pub cite_counts : {E P : Type 0} → List (Request E P) → List ℕ
+cite_counts requests = map (λ r. length r.cites) requests
+
+module _ {E P : Type 0} (eq : E → E → Bool) (listed : List E) where
+  -- a cite of a request, whose entry is named by its index in the bibliography
+  abbrev pub handed_cite : Request E P → RequestedCite E P → HandedCite
+  handed_cite r c = record {
+    entry = place eq c.entry listed;
+    note = r.note_number;
+    near_note_distance = r.style.citation.near_note_distance;
+  }
+
+  -- the cites of all requests, in order
+  abbrev pub handed_cites : List (Request E P) → List HandedCite
+  handed_cites requests = flat_map (λ r. map (handed_cite r) r.cites) requests
+
+  -- what is known of each, by request and by place in it
+  abbrev pub notes_of_cites : List (Request E P) → List (List CiteNotes)
+  notes_of_cites requests = parts (cite_counts requests) (all_notes (handed_cites requests))

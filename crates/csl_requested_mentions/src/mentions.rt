@@ -1,0 +1,82 @@
+//! The mentions of entries, as they are written and told apart.
+ghost use Rattle.std.specs.Prelude.{◌≡◌, ◌+◌, ◌*◌, ℕ, IfOk, length, map};
+ghost use Rattle.csl_lookup.specs.PropertiesView.{properties_view};
+ghost use Rattle.csl_style_values.specs.StyleView.{citation_view};
+ghost use Rattle.csl_requested_mentions.specs.HomeView.{home_view, homes_view};
+ghost use Rattle.csl_requested_mentions.specs.Mentions.{
+  all_properties,
+  given_name_rule,
+  mention,
+  mention_properties,
+  mentions_at,
+};
+ghost use Rattle.csl_requested_mentions.specs.Plain.{plain};
+
+use crate::home::Home;
+use csl_cited_mentions::mention::CiteMention;
+use csl_lookup::properties::CiteProperties;
+use csl_style_values::style::{Citation, DisambiguationRule};
+use csl_tables::subject::Subject;
+use std::alloc::{AllocError, Global};
+
+/// The rule by which a style adds given names, if it does.
+fn given_name_rule(citation: &Citation) -> Option<DisambiguationRule>
+    ensures { result ≡ given_name_rule (citation_view citation.now) }
+{
+    if citation.disambiguate_add_givenname {
+        Some(citation.givenname_disambiguation_rule)
+    } else {
+        None
+    }
+}
+
+/// The first mention of the entry at an index, or the later one, with these properties.
+fn mention<'t, 'r: 't, 'a: 't, 'p, T, P>(
+    home: &Home<'r, 'a, T, P>,
+    index: usize,
+    properties: &'t CiteProperties<'p, P>,
+    is_first: bool,
+) -> Subject<CiteMention<'t, 'p, T, P>>
+    ensures { (offset : ℕ)
+        → properties_view properties.now
+        ≡ mention_properties (offset + index) (home_view home.now) is_first
+        → plain result ≡ mention offset index (home_view home.now) is_first }
+{
+    let citation = &home.request.request.style().citation;
+    Subject {
+        mention: CiteMention {
+            source: home.request.source(),
+            entry: home.entry,
+            properties,
+        },
+        entry: index,
+        is_first,
+        adds_names: citation.disambiguate_add_names,
+        rule: given_name_rule(citation),
+        adds_suffix: citation.disambiguate_add_year_suffix,
+    }
+}
+
+/// The mentions of entries with these homes, in their order, the first one of an entry before the
+/// later one. The properties are those of the mentions.
+///
+/// # Errors
+///
+/// Where memory is refused.
+pub fn mentions<'t, 'r: 't, 'a: 't, 'p, T, P>(
+    alloc: Global,
+    homes: &[Home<'r, 'a, T, P>],
+    properties: &'t [CiteProperties<'p, P>],
+) -> Result<Vec<Subject<CiteMention<'t, 'p, T, P>>>, AllocError>
+    requires { length properties.now ≡ 2 * length homes.now }
+    ensures { IfOk result (λ v. (offset : ℕ)
+        → map properties_view properties.now ≡ all_properties offset (homes_view homes.now)
+        → map plain v.items ≡ mentions_at offset (homes_view homes.now)) }
+{
+    let mut mentions = Vec::with_capacity(alloc, properties.len())?;
+    for (index, home) in homes.iter().enumerate() {
+        mentions.push(mention(home, index, &properties[2 * index], true))?;
+        mentions.push(mention(home, index, &properties[2 * index + 1], false))?;
+    }
+    Ok(mentions)
+}

@@ -1,0 +1,5 @@
+pub mod Around
+pub mod Placed
+pub mod Law
+pub mod Numbers
+pub mod Suffixes

@@ -1,0 +1,4 @@
+pub mod Stretches
+pub mod NumberRanges
+pub mod SuffixStretches
+pub mod Links

@@ -1,0 +1,11 @@
+use Rattle.std.proofs.Common.{◌≡◌, map, take}
+use Rattle.csl_tables.specs.Asked.{asked_for, untold}
+use Rattle.csl_tables.specs.Steps.{AreFirsts}
+use Rattle.csl_tables.proofs.firsts.write_firsts.Given as goal
+
+abbrev pub invariant-loop-subject : goal.invariant-loop-subject
+invariant-loop-subject g l = record {
+  firsts : AreFirsts (g.M.WrittenBy.writing l.fn.writer l.fn.counter) (take l.subject-index l.subjects) l.firsts;
+  asked : g.M.WrittenBy.writing l.writer l.counter ≡ asked_for (map (λ s. (s.mention, untold)) (take l.subject-index l.subjects)) (g.M.WrittenBy.writing l.fn.writer l.fn.counter);
+  goes_on : g.M.WrittenBy.goes_on l.fn.writer l.writer;
+}

@@ -1,0 +1,79 @@
+//! Mentions that are written.
+use csl_mentions::state::MentionState;
+use csl_mentions::written::Written;
+use std::alloc::{AllocError, Global};
+
+/// A mention that was written.
+#[derive(Drop)]
+pub struct WrittenMention<K> {
+    /// What is read of it, by which mentions are told apart.
+    pub read: Written,
+    /// What its writer keeps of it.
+    pub kept: K,
+}
+
+/// A mention that a writer writes, and that a counter counts. What is written of it follows from
+/// what is asked for, however often and in whichever order that is. All that being asked may change
+/// is what the writer notes, and the count.
+pub trait WrittenBy<W, C> {
+    ghost use Rattle.std.specs.Prelude.{◌≡◌, ◌∷◌, [], IfOk, OnOk};
+    ghost use Rattle.csl_tables.specs.Asked.{MentionsWriter, asked_for, first_kept, untold};
+
+    /// Why nothing may be written; a want of memory among others.
+    type Error: From<AllocError> + Drop;
+
+    /// What is kept of a mention that was written.
+    type Kept: Drop;
+
+    /// What is noted of all that was asked for.
+    type Notes;
+
+    /// What is written of such mentions, and what was noted.
+    ghost writing: { W → C → MentionsWriter Self Self.Kept Self.Notes };
+
+    /// A writer goes on from another one: but for what was noted, nothing that is known of it has
+    /// changed, also of what it writes beside such mentions.
+    ghost goes_on: { W → W → Type 0 };
+
+    ghost stays: { (w : W) → goes_on w w };
+
+    ghost follows: { (u : W) (v : W) (w : W) → goes_on u v → goes_on v w → goes_on u w };
+
+    /// Writes the mention where nothing tells it apart.
+    ///
+    /// # Errors
+    ///
+    /// The writer's own.
+    fn write_first(
+        &self,
+        alloc: Global,
+        writer: &mut W,
+        counter: &mut C,
+    ) -> Result<WrittenMention<Self::Kept>, Self::Error>
+        ensures written { IfOk result
+            (λ w. w ≡ (writing writer.old counter.old).write self.now untold) }
+        ensures asked { OnOk result (writing writer.new counter.new
+            ≡ asked_for ((self.now, untold) ∷ []) (writing writer.old counter.old)) }
+        ensures goes_on { OnOk result (goes_on writer.old writer.new) };
+
+    /// Writes the mention again, where this tells it apart. `first` is what was kept of it where
+    /// nothing did.
+    ///
+    /// # Errors
+    ///
+    /// The writer's own.
+    fn write_again(
+        &self,
+        alloc: Global,
+        told: &MentionState,
+        first: &Self::Kept,
+        writer: &mut W,
+        counter: &mut C,
+    ) -> Result<WrittenMention<Self::Kept>, Self::Error>
+        ensures written { first.now ≡ first_kept (writing writer.old counter.old) self.now
+            → IfOk result (λ w. w ≡ (writing writer.old counter.old).write self.now told.now) }
+        ensures asked { first.now ≡ first_kept (writing writer.old counter.old) self.now
+            → OnOk result (writing writer.new counter.new
+            ≡ asked_for ((self.now, told.now) ∷ []) (writing writer.old counter.old)) }
+        ensures goes_on { OnOk result (goes_on writer.old writer.new) };
+}

@@ -1,0 +1,12 @@
+pub mod Deciding
+pub mod Logic
+pub mod Beside
+pub mod Numbered
+pub mod Leading
+pub mod Differing
+pub mod Counting
+pub mod Needing
+pub mod Stepping
+pub mod InDocument
+pub mod Walking
+pub mod Answering

@@ -1,0 +1,35 @@
+-- For the code: what is known of the persons of a document.
+use Rattle.std.specs.Prelude.{List, take}
+use Rattle.std.specs.HashMap.{HashMap, get}
+use Rattle.std.specs.List.{flat_map}
+use Rattle.csl_values.specs.declared.names.DisambiguatedNameForm.{DisambiguatedNameForm}
+use Rattle.csl_telling.specs.Looks.{full_look, has_given}
+use Rattle.csl_telling.specs.Rivals.{AreRivals, Shown, by_family, by_initials, form_by, is_other_held, named_keys, same_name}
+use Rattle.csl_telling.specs.declared.document.Document.{Document}
+use Rattle.csl_telling.specs.declared.look.Look.{Look}
+use Rattle.csl_telling.specs.declared.mention.MentionedName.{MentionedName}
+use Rattle.csl_telling.specs.declared.mention.NamedMention.{NamedMention}
+use Rattle.csl_telling.specs.declared.rivals.Held.{Held}
+use Rattle.csl_telling.specs.declared.rivals.Node.{Node}
+use Rattle.csl_telling.specs.declared.rivals.SharedName.{SharedName}
+
+-- persons of a document are gathered at one node
+abbrev pub everywhere : Node
+everywhere = Node.Start 0
+
+-- the form that a look in full needs among the rivals at a node
+abbrev pub rival_form : {S : Type 0} → HashMap SharedName Held S → Node → Look
+    → DisambiguatedNameForm
+rival_form rivals node r = form_by (has_given r)
+    (is_other_held r (get same_name rivals (by_family node r)))
+    (is_other_held r (get same_name rivals (by_initials node r)))
+
+-- a person of a document, by the names
+abbrev pub person_keys : MentionedName → Shown
+person_keys n = named_keys everywhere (full_look n.person)
+
+-- the persons of these mentions
+pub record KnowsDocument (document : Document) (mentions : List NamedMention) : Type 0 where
+  pub all : AreRivals document.all (flat_map (λ m. flat_map person_keys m.names) mentions)
+  pub first : AreRivals document.first
+      (flat_map (λ m. flat_map person_keys (take 1 m.names)) mentions)

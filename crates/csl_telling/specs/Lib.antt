@@ -1,0 +1,12 @@
+pub mod Looks
+pub mod Forms
+pub mod Persons
+pub mod ByDocument
+pub mod Reaches
+pub mod Telling
+pub mod Told
+pub mod Rivals
+pub mod Known
+pub mod Ways
+pub mod Gathered
+pub mod Raising

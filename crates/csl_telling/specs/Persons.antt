@@ -1,0 +1,24 @@
+-- The persons of mentions, and the forms in which their styles write them.
+use Rattle.std.specs.Prelude.{List, map, take}
+use Rattle.std.specs.List.{flat_map}
+use Rattle.csl_values.specs.Forms.{Forms}
+use Rattle.csl_telling.specs.Looks.{full_look}
+use Rattle.csl_telling.specs.declared.look.Look.{Look}
+use Rattle.csl_telling.specs.declared.mention.MentionedName.{MentionedName}
+use Rattle.csl_telling.specs.declared.mention.NamedMention.{NamedMention}
+
+-- the forms in which names are written by themselves
+abbrev pub own_forms : List MentionedName → Forms
+own_forms = map (λ n. n.own)
+
+-- the persons of names, by their looks in full
+abbrev pub full_looks : List MentionedName → List Look
+full_looks = map (λ n. full_look n.person)
+
+-- all persons of mentions
+abbrev pub all_persons : List NamedMention → List Look
+all_persons mentions = flat_map (λ m. full_looks m.names) mentions
+
+-- and their first ones
+abbrev pub first_persons : List NamedMention → List Look
+first_persons mentions = flat_map (λ m. full_looks (take 1 m.names)) mentions

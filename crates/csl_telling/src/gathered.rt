@@ -1,0 +1,171 @@
+//! Names that tell mentions of a group apart. All looks that go on from a node are known by what
+//! they share; so for each name of a mention it is asked whether another one goes on, or ends,
+//! where the names before it lead.
+ghost use Rattle.std.specs.Prelude.{◌≡◌, ◌+◌, ◌<◌, ◌++◌, ◌^◌, IfOk, OnOk, map};
+ghost use Rattle.std.specs.List.{enumerate_from};
+ghost use Rattle.csl_telling.specs.Gathered.{IsGathered, count_at, count_from, count_of, ends_at, ends_of, forms_at, is_end, needs_on, shown_at, shown_by};
+ghost use Rattle.csl_telling.specs.Rivals.{TellsMore};
+ghost use Rattle.csl_telling.specs.Telling.{greatest};
+ghost use Rattle.csl_telling.specs.declared.rivals.Node.{Node as NodeValue};
+
+use crate::rivals::{Node, Rivals, add_at, at_node, has_other, is_held, needed_form};
+use crate::ways::{Stop, Way};
+use csl_lists::seq::Seq;
+use csl_values::names::DisambiguatedNameForm;
+use indexmap::IndexSet;
+use std::alloc::{AllocError, Global};
+use std::collections::HashMap;
+
+/// All that is shown from the stops of mentions.
+#[derive(Drop)]
+pub(crate) struct Gathered {
+    pub(crate) beside: Rivals,
+    /// The nodes at which the names of some mention end.
+    pub(crate) ends: IndexSet<Node>,
+}
+
+/// What a mention needs to be told from the others of its group.
+#[derive(Drop)]
+pub(crate) struct Needs {
+    /// How many names have to be shown.
+    pub(crate) count: usize,
+    /// The form that each name needs.
+    pub(crate) forms: Seq<DisambiguatedNameForm>,
+}
+
+fn add_stop(
+    alloc: Global,
+    beside: &mut Rivals,
+    by_cite: bool,
+    stop: &Stop,
+) -> Result<(), AllocError>
+    ensures { OnOk result (TellsMore beside.old beside.new (shown_at by_cite stop.now)) }
+{
+    match &stop.look {
+        Some(look) => add_at(alloc, beside, by_cite, stop.node, look),
+        None => Ok(()),
+    }
+}
+
+fn add_way(alloc: Global, beside: &mut Rivals, way: &Way) -> Result<(), AllocError>
+    ensures { OnOk result (TellsMore beside.old beside.new (shown_by way.now)) }
+{
+    for stop in way.stops.as_slice() {
+        add_stop(alloc, beside, way.by_cite, stop)?;
+    }
+    Ok(())
+}
+
+fn add_end(ends: &mut IndexSet<Node>, stop: &Stop) -> Result<(), AllocError>
+    ensures { OnOk result ((n : NodeValue) → is_end n ends.new.keys
+        ≡ is_end n (ends.old.keys ++ ends_at stop.now)) }
+{
+    if stop.look.is_none() {
+        ends.insert(stop.node)?;
+    }
+    Ok(())
+}
+
+fn add_ends(ends: &mut IndexSet<Node>, way: &Way) -> Result<(), AllocError>
+    ensures { OnOk result ((n : NodeValue) → is_end n ends.new.keys
+        ≡ is_end n (ends.old.keys ++ ends_of way.now)) }
+{
+    for stop in way.stops.as_slice() {
+        add_end(ends, stop)?;
+    }
+    Ok(())
+}
+
+/// All that is shown on these ways.
+pub(crate) fn gather(alloc: Global, ways: &[Way]) -> Result<Gathered, AllocError>
+    ensures { IfOk result (λ g. IsGathered g ways.now) }
+{
+    let mut beside = HashMap::new(alloc);
+    let mut ends = IndexSet::new(alloc);
+    for way in ways {
+        add_way(alloc, &mut beside, way)?;
+        add_ends(&mut ends, way)?;
+    }
+    Ok(Gathered { beside, ends })
+}
+
+fn count_of(i: usize, other_goes_on: bool, other_ends: bool) -> usize
+    requires { i + 1 < 2 ^ 64 }
+    ensures { result ≡ count_of i other_goes_on other_ends }
+{
+    if other_goes_on {
+        i + 1
+    } else if other_ends {
+        i
+    } else {
+        0
+    }
+}
+
+/// How many names are needed because of what goes on or ends at a stop, behind `i` names.
+fn count_at(gathered: &Gathered, i: usize, stop: &Stop) -> usize
+    requires { i + 1 < 2 ^ 64 }
+    ensures { result ≡ count_from gathered.now i stop.now.node stop.now.look }
+{
+    let name = at_node(stop.node);
+    match &stop.look {
+        Some(look) => count_of(
+            i,
+            has_other(&gathered.beside, &name, look),
+            gathered.ends.contains(&stop.node),
+        ),
+        None => {
+            if is_held(&gathered.beside, &name) {
+                i
+            } else {
+                0
+            }
+        }
+    }
+}
+
+fn counted(gathered: &Gathered, way: &Way) -> usize
+    ensures { result ≡ greatest (map (count_at gathered.now) (enumerate_from 0 way.now.stops)) }
+{
+    let mut count = 0;
+    for (i, stop) in way.stops.as_slice().iter().enumerate() {
+        count = count_at(gathered, i, stop).max(count);
+    }
+    count
+}
+
+/// Adds the form that the name behind a stop needs.
+fn add_form(
+    alloc: Global,
+    gathered: &Gathered,
+    by_cite: bool,
+    stop: &Stop,
+    forms: &mut Vec<DisambiguatedNameForm>,
+) -> Result<(), AllocError>
+    ensures { OnOk result (forms.new.items
+        ≡ forms.old.items ++ forms_at gathered.now by_cite stop.now) }
+{
+    let Some(look) = &stop.look else {
+        return Ok(());
+    };
+    if by_cite {
+        forms.push(needed_form(alloc, &gathered.beside, stop.node, look)?)?;
+    } else {
+        forms.push(DisambiguatedNameForm::Short)?;
+    }
+    Ok(())
+}
+
+/// What the mention of a way needs against those of all ways that are gathered.
+pub(crate) fn needs_on(alloc: Global, gathered: &Gathered, way: &Way) -> Result<Needs, AllocError>
+    ensures { IfOk result (λ n. n ≡ needs_on gathered.now way.now) }
+{
+    let mut forms = Vec::new(alloc);
+    for stop in way.stops.as_slice() {
+        add_form(alloc, gathered, way.by_cite, stop, &mut forms)?;
+    }
+    Ok(Needs {
+        count: counted(gathered, way),
+        forms: Seq::new(forms),
+    })
+}

@@ -1,0 +1,27 @@
+//! Mentions of entries, as far as names can tell them apart.
+use csl_lists::seq::Seq;
+use csl_style_values::style::DisambiguationRule;
+use csl_values::entry::Person;
+use csl_values::names::DisambiguatedNameForm;
+
+/// A name of a mention.
+#[derive(Drop)]
+pub struct MentionedName {
+    pub person: Person,
+    /// The form in which the style writes it by itself.
+    pub own: DisambiguatedNameForm,
+}
+
+/// A mention of an entry, by its names.
+#[derive(Drop)]
+pub struct NamedMention {
+    /// The names that may be made fuller, in order.
+    pub names: Seq<MentionedName>,
+    /// Whether its style adds names.
+    pub adds_names: bool,
+    /// The rule by which its style adds given names, if it does.
+    pub rule: Option<DisambiguationRule>,
+    /// The index of the first mention of its ambiguous group among all mentions; none where it is
+    /// in no such group.
+    pub group: Option<usize>,
+}

@@ -1,0 +1,7 @@
+pub mod Mentions
+pub mod NotedNames
+pub mod Requests
+pub mod ByPlaces
+pub mod Cites
+pub mod ToldView
+pub mod Arranging

@@ -1,0 +1,8 @@
+//! The cites of requests once all mentions are told apart: what is known of each before it is
+//! arranged, and what arranging makes of it.
+#![tactic(auto)]
+
+pub mod arranging;
+pub mod cites;
+pub mod mentions;
+pub mod requests;

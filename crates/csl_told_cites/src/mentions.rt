@@ -1,0 +1,241 @@
+//! What is known of mentions once all are told apart.
+ghost use Rattle.std.specs.Prelude.{◌≡◌, ◌+◌, ◌*◌, ◌^◌, ◌<◌, false, IfOk, None, OnOk, Some, if◌then◌else◌, option_map, slice_get, unwrap_or};
+ghost use Rattle.std.specs.Option.{option_and_then, option_map_or, option_or};
+ghost use Rattle.csl_shown.specs.declared.shown.ShownNames.{ShownNames as NamesValue};
+ghost use Rattle.csl_told_cites.specs.Mentions.{
+  entry_suffix,
+  first_with_names,
+  kept_last,
+  mention_index,
+  mention_of,
+  same_names,
+  suffix_number,
+  told_mention,
+  told_mentions,
+  unshown,
+};
+ghost use Rattle.csl_told_cites.specs.NotedNames.{first_noted};
+
+use csl_cited_mentions::kept::KeptOfMention;
+use csl_lookup::state::IdentifierUsage;
+use csl_runs::suffixes::Suffix;
+use csl_shown::shown::ShownNames;
+use csl_tables::tables::Told;
+use std::alloc::{AllocError, Global};
+use std::collections::HashMap;
+
+/// What is known of a mention once all are told apart.
+#[derive(Clone, Copy)]
+pub struct ToldMention {
+    /// Which identifiers of its entry it had written where nothing told it apart.
+    pub usage: IdentifierUsage,
+    /// Its names as they are shown in the end: the index of the first mention that shows equal
+    /// ones; none where it shows none.
+    pub names: Option<usize>,
+    /// What it reads as in the end: the index of the first mention with its text; none where it
+    /// has no text.
+    pub text: Option<usize>,
+    /// Whether it shows the number of its entry in the end.
+    pub shows_number: bool,
+    /// Whether it shows a date in the end.
+    pub shows_date: bool,
+}
+
+/// What was kept of a mention as it was written last.
+fn last_of<'k>(first: &'k KeptOfMention, again: &'k Option<KeptOfMention>) -> &'k KeptOfMention
+    ensures { result.now ≡ unwrap_or again.now first.now }
+{
+    match again {
+        Some(again) => again,
+        None => first,
+    }
+}
+
+/// Notes that the mention at an index shows these names, if none before it does.
+fn note_shown<'k>(
+    noted: &mut HashMap<&'k ShownNames, usize>,
+    index: usize,
+    names: &'k ShownNames,
+) -> Result<(), AllocError>
+    ensures { OnOk result ((n : NamesValue) → first_noted noted.new n
+        ≡ option_or (first_noted noted.old n)
+        (if same_names n names.now then Some index else None)) }
+{
+    let first = noted.get(&names).copied().unwrap_or(index);
+    noted.insert(names, first)?;
+    Ok(())
+}
+
+/// The same, if it shows any.
+fn note_names<'k>(
+    noted: &mut HashMap<&'k ShownNames, usize>,
+    index: usize,
+    names: &'k Option<ShownNames>,
+) -> Result<(), AllocError>
+    ensures { OnOk result ((n : NamesValue) → first_noted noted.new n
+        ≡ option_or (first_noted noted.old n)
+        (if option_map_or (same_names n) names.now false then Some index else None)) }
+{
+    match names {
+        Some(names) => note_shown(noted, index, names),
+        None => Ok(()),
+    }
+}
+
+/// The names that mentions show in the end, each with the index of the first that shows them.
+fn noted_names<'k>(
+    alloc: Global,
+    firsts: &'k [KeptOfMention],
+    again: &'k [Option<KeptOfMention>],
+) -> Result<HashMap<&'k ShownNames, usize>, AllocError>
+    ensures { IfOk result (λ noted. (n : NamesValue) → first_noted noted n
+        ≡ first_with_names (kept_last firsts.now again.now) n) }
+{
+    let mut noted = HashMap::new(alloc);
+    let count = firsts.len().min(again.len());
+    for k in 0..count {
+        let last = last_of(&firsts[k], &again[k]);
+        note_names(&mut noted, k, &last.names)?;
+    }
+    Ok(noted)
+}
+
+/// The index of the first mention that shows these names.
+fn first_of(noted: &HashMap<&ShownNames, usize>, names: &Option<ShownNames>) -> Option<usize>
+    ensures { result ≡ option_and_then (first_noted noted.now) names.now }
+{
+    match names {
+        Some(names) => noted.get(&names).copied(),
+        None => None,
+    }
+}
+
+/// What is known of a mention of which this was kept at first and again, and which reads so.
+fn told_mention(
+    noted: &HashMap<&ShownNames, usize>,
+    first: &KeptOfMention,
+    again: &Option<KeptOfMention>,
+    text: Option<usize>,
+) -> ToldMention
+    ensures { result ≡ told_mention (first_noted noted.now) first.now again.now text }
+{
+    let last = last_of(first, again);
+    ToldMention {
+        usage: first.usage,
+        names: first_of(noted, &last.names),
+        text,
+        shows_number: last.shows_number,
+        shows_date: last.shows_date,
+    }
+}
+
+/// What is known of mentions whose names were noted.
+fn mentions_by(
+    alloc: Global,
+    noted: &HashMap<&ShownNames, usize>,
+    firsts: &[KeptOfMention],
+    again: &[Option<KeptOfMention>],
+    texts: &[Option<usize>],
+) -> Result<Vec<ToldMention>, AllocError>
+    requires { (n : NamesValue) → first_noted noted.now n
+        ≡ first_with_names (kept_last firsts.now again.now) n }
+    ensures { IfOk result (λ v. v.items ≡ told_mentions firsts.now again.now texts.now) }
+{
+    let count = firsts.len().min(again.len()).min(texts.len());
+    let mut mentions = Vec::with_capacity(alloc, count)?;
+    for k in 0..count {
+        mentions.push(told_mention(noted, &firsts[k], &again[k], texts[k]))?;
+    }
+    Ok(mentions)
+}
+
+/// What is known of the mentions that were told apart, in their order.
+///
+/// # Errors
+///
+/// Where memory is refused.
+pub fn told_mentions(
+    alloc: Global,
+    told: &Told<KeptOfMention>,
+) -> Result<Vec<ToldMention>, AllocError>
+    ensures { IfOk result (λ v. v.items
+        ≡ told_mentions told.now.firsts.items told.now.again.items told.now.texts.items) }
+{
+    let firsts = told.firsts.as_slice();
+    let again = told.again.as_slice();
+    let texts = told.texts.as_slice();
+    let noted = noted_names(alloc, firsts, again)?;
+    mentions_by(alloc, &noted, firsts, again, texts)
+}
+
+/// A mention of which nothing is known.
+fn unshown() -> ToldMention
+    ensures { result ≡ unshown }
+{
+    ToldMention {
+        usage: IdentifierUsage::None,
+        names: None,
+        text: None,
+        shows_number: false,
+        shows_date: false,
+    }
+}
+
+/// Where the first mention of the entry at an index stands, or its later one.
+fn mention_index(entry: usize, is_first: bool) -> usize
+    requires { 2 * entry + 1 < 2 ^ 64 }
+    ensures { result ≡ mention_index entry is_first }
+{
+    if is_first { 2 * entry } else { 2 * entry + 1 }
+}
+
+/// What a list by mentions has for the first mention of the entry at an index, or for its later
+/// one.
+pub fn by_mention<X>(all: &[X], entry: usize, is_first: bool) -> Option<&X>
+    ensures { option_map (λ x. x.now) result ≡ slice_get all.now (mention_index entry is_first) }
+{
+    let half = all.len() / 2;
+    if entry > half {
+        return None;
+    }
+    all.get(mention_index(entry, is_first))
+}
+
+/// The first mention of the entry at an index, or its later one. Where there is no such mention,
+/// nothing is shown.
+pub fn mention_of(mentions: &[ToldMention], entry: usize, is_first: bool) -> ToldMention
+    ensures { result ≡ mention_of mentions.now entry is_first }
+{
+    match by_mention(mentions, entry, is_first) {
+        Some(mention) => *mention,
+        None => unshown(),
+    }
+}
+
+/// The number of the suffix of the entry at an index, if it has one.
+pub fn suffix_number(suffixes: &[Option<usize>], entry: usize) -> Option<usize>
+    ensures { result ≡ suffix_number suffixes.now entry }
+{
+    match suffixes.get(entry) {
+        Some(number) => *number,
+        None => None,
+    }
+}
+
+/// The suffix of the entry at an index, if it has one. Its class is what the later mention of the
+/// entry reads as: suffixes are given to entries whose later mentions read alike.
+pub fn entry_suffix(
+    mentions: &[ToldMention],
+    suffixes: &[Option<usize>],
+    entry: usize,
+) -> Option<Suffix>
+    ensures { result ≡ entry_suffix mentions.now suffixes.now entry }
+{
+    match suffix_number(suffixes, entry) {
+        Some(number) => Some(Suffix {
+            class: mention_of(mentions, entry, false).text.unwrap_or(0),
+            number,
+        }),
+        None => None,
+    }
+}

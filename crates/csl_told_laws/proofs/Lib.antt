@@ -1,0 +1,14 @@
+pub mod Listing
+pub mod Settled
+pub mod Fuller
+pub mod Choosing
+pub mod Classing
+pub mod Counted
+pub mod Paired
+pub mod Bounded
+pub mod Sparing
+pub mod Apart
+pub mod Appearing
+pub mod Placing
+pub mod NamesTelling
+pub mod Kept

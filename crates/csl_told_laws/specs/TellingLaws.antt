@@ -1,0 +1,47 @@
+-- What a caller may rely on of the states and the suffixes that tell mentions apart.
+use Rattle.std.specs.Prelude.{◌≡◌, ℕ, ◌*◌, ◌+◌, ◌≤◌, ◌∷◌, [], Bool, List, Option, filter, is_some, length, not}
+use Rattle.std.specs.List.{list_any}
+use Rattle.csl_mentions.specs.declared.mention.Mention.{Mention}
+use Rattle.csl_mentions.specs.declared.state.MentionState.{MentionState}
+use Rattle.csl_mentions.specs.declared.written.Written.{Written}
+use Rattle.csl_tables.specs.Tables.{all_tasks, mentions_in}
+use Rattle.csl_tables.specs.declared.subject.Subject.{Subject}
+use Rattle.csl_told_laws.specs.Ambiguous.{ConditionHolds, OnlyAmbiguous}
+use Rattle.csl_told_laws.specs.Growing.{StatesGrow}
+use Rattle.csl_told_laws.specs.Shown.{NamesTell}
+use Rattle.csl_told_laws.specs.SuffixLaws.{NothingIsLeft, SuffixesCount}
+
+abbrev pub has_names : MentionState → Bool
+has_names state = is_some state.names
+
+-- how many of names, the condition and suffixes tell something apart
+abbrev pub rounds_of : List MentionState → List (Option ℕ) → ℕ
+rounds_of states suffixes = length (filter (λ told. told) (list_any has_names states
+    ∷ list_any (λ s. s.chosen) states ∷ list_any is_some suffixes ∷ []))
+
+module _ {M : Type 0} (write : M → MentionState → Written) (subjects : List (Subject M)) where
+  -- the later mentions of all entries, as they read in the end
+  abbrev pub laters_in : List MentionState → List Mention
+  laters_in states = filter (λ m. not m.is_first) (mentions_in write subjects states)
+
+  -- rounds and tasks have bounds, for so many entries
+  pub record HasBounds (entries : ℕ) (states : List MentionState) (suffixes : List (Option ℕ))
+      : Type 0 where
+    pub three_rounds : rounds_of states suffixes ≤ 3
+    -- each mention is written once, again where it has other names, and again where it is chosen
+    pub tasks : length (all_tasks write subjects) ≡ length subjects
+        + length (filter has_names states) + length (filter (λ s. s.chosen) states)
+    pub six_an_entry : length (all_tasks write subjects) ≤ 6 * entries
+
+  -- what holds of the states of all mentions and the suffixes of all entries
+  pub record KeepsTellingLaws (entries : ℕ) (states : List MentionState)
+      (suffixes : List (Option ℕ)) : Type 0 where
+    -- the states once names told mentions apart, before the condition was made to hold
+    pub by_names : List MentionState
+    pub grow : StatesGrow write subjects by_names states
+    pub condition : ConditionHolds write subjects by_names states
+    pub names_tell : NamesTell write subjects states
+    pub count : SuffixesCount (laters_in states) suffixes
+    pub none_left : NothingIsLeft (laters_in states) suffixes
+    pub only_ambiguous : OnlyAmbiguous write subjects by_names states suffixes
+    pub bounds : HasBounds entries states suffixes
