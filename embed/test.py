@@ -559,6 +559,20 @@ def try_hard(folder, cases, calls):
     hold_stack(folder, [case.path for case in cases])
 
 
+def spent():
+    """The seconds of a processor that this process took, and those that it waited for."""
+    times = os.times()
+    return times.user + times.system + times.children_user + times.children_system
+
+
+def timed(part, *arguments):
+    """What a part of the tests gives. Tells what it took."""
+    before = spent()
+    given = part(*arguments)
+    print(f'{part.__name__}: {spent() - before:.0f} s of a processor')
+    return given
+
+
 def main(words):
     began, calls = time.time(), FEW_CALLS
     if words[:1] == ['--many']:
@@ -566,24 +580,24 @@ def main(words):
     built = subprocess.run([sys.executable, f'{HERE}/build.py', *words]).returncode
     hold(built == 0, 'the library is built')
     if built == 0:
-        print(f'built in {time.time() - began:.0f} s')
+        print(f'built in {time.time() - began:.0f} s, {spent():.0f} s of a processor')
         began = time.time()
         cases = [Case(path)
                  for path in sorted(glob.glob(f'{ROOT}/tests/documents/*/*.json')
                                     + glob.glob(f'{ROOT}/examples/*.json'))]
         with tempfile.TemporaryDirectory() as folder:
-            compile_all(folder)
+            timed(compile_all, folder)
             if not failures:
-                jsons = try_from_c(folder, cases)
-                try_from_python(cases, jsons)
-                try_limits(folder, cases)
-                try_driven(folder)
-                try_texts(folder)
-                try_driving()
-                installing.try_building(folder)
-                try_hard(folder, cases, calls)
-                try_tests_of_the_package(folder)
-                installing.try_packages(folder)
+                jsons = timed(try_from_c, folder, cases)
+                timed(try_from_python, cases, jsons)
+                timed(try_limits, folder, cases)
+                timed(try_driven, folder)
+                timed(try_texts, folder)
+                timed(try_driving)
+                timed(installing.try_building, folder)
+                timed(try_hard, folder, cases, calls)
+                timed(try_tests_of_the_package, folder)
+                timed(installing.try_packages, folder)
         print(f'{len(cases)} documents, {time.time() - began:.0f} s')
     for message in left_out:
         print(f'left out: {message}')

@@ -32,7 +32,8 @@ pub struct Document<'d> {
     pub locale: &'d LocaleChain<'d>,
     pub references: &'d References,
     pub citations: &'d [Citation],
-    /// Whether the bibliography is wanted.
+    /// Whether the items of the bibliography are wanted. Order, numbers and suffixes follow it in
+    /// any case.
     pub lists_items: bool,
 }
 
@@ -87,12 +88,13 @@ impl<'d> Document<'d> {
         items: &Items<'d>,
         citations: &[SortedCitation<'d>],
     ) -> Result<Rendered, AnswerError> {
-        let style = driven_style(alloc, self.style, self.has_notes(setting), self.lists_items)?;
+        let style = driven_style(alloc, self.style, self.has_notes(setting))?;
         let mut writer = TaskWriter {
             alloc,
             setting,
             items,
             citations,
+            lists_items: self.lists_items,
             table: IndexMap::new(alloc),
             plain_cites: IndexMap::new(alloc),
         };
@@ -125,8 +127,8 @@ impl<'d> Document<'d> {
             }
         }
         let bibliography = match &rendered.bibliography {
-            Some(bibliography) => Some(self.listed(alloc, bibliography)?),
-            None => None,
+            Some(bibliography) if self.lists_items => Some(self.listed(alloc, bibliography)?),
+            _ => None,
         };
         Ok(Answer {
             citations,

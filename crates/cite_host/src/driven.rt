@@ -13,17 +13,16 @@ use style_file::sections::{
 };
 use style_file::style::CslStyle;
 
-/// What the driver has to know of a style, to which numbers of notes matter if `has_notes`, and
-/// which has a bibliography only if `lists_items`. The name of the style is not looked at.
+/// What the driver has to know of a style, to which numbers of notes matter if `has_notes`. The
+/// name of the style is not looked at.
 pub(crate) fn driven_style(
     alloc: Global,
     style: &CslStyle,
     has_notes: bool,
-    lists_items: bool,
 ) -> Result<driven::IndependentStyle, AllocError> {
     let bibliography = match &style.bibliography {
-        Some(bibliography) if lists_items => Some(driven_bibliography(alloc, bibliography)?),
-        _ => None,
+        Some(bibliography) => Some(driven_bibliography(alloc, bibliography)?),
+        None => None,
     };
     Ok(driven::IndependentStyle {
         info: driven::StyleInfo {

@@ -32,6 +32,8 @@ pub(crate) struct TaskWriter<'s, 'i, 'd> {
     pub setting: Setting<'s>,
     pub items: &'i Items<'d>,
     pub citations: &'i [SortedCitation<'d>],
+    /// Whether the items of the bibliography are wanted.
+    pub lists_items: bool,
     /// What is written.
     pub table: Table,
     /// Of plain cites, where in the table stands what is written of them.
@@ -77,8 +79,8 @@ impl<'s, 'i, 'd> TaskWriter<'s, 'i, 'd> {
                 purpose: *purpose,
                 verdict: *verdict,
             }),
-            TaskPart::Item(standing) => self.write_item(item, standing),
-            TaskPart::Date(_) => Ok(nothing(self.alloc)),
+            TaskPart::Item(standing) if self.lists_items => self.write_item(item, standing),
+            TaskPart::Item(_) | TaskPart::Date(_) => Ok(nothing(self.alloc)),
         }
     }
 

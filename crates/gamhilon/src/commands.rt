@@ -130,9 +130,17 @@ fn print_document(
     let language = found.language(options);
     let files = locales_of(rt, options, language)?;
     let locale = LocaleChain::new(rt.alloc(), language, &found.style.locales, &files)?;
-    let answer = answer_of(rt.alloc(), options, found, references, cited, &locale)?;
+    let is_whole = options.format == OutputFormat::Json;
+    let document = Document {
+        style: &found.style,
+        locale: &locale,
+        references,
+        citations: &cited.citations,
+        lists_items: is_whole || printed == Printed::Bibliography,
+    };
+    let answer = answer_of(rt.alloc(), options, &document, cited.count)?;
     let marks = locale.quote_marks();
-    if options.format == OutputFormat::Json {
+    if is_whole {
         return print_json(rt, &found.style, &cited.citations, &answer, marks);
     }
     match printed {
@@ -141,26 +149,16 @@ fn print_document(
     }
 }
 
-/// What comes of a document: the citations of the file, and the bibliography.
+/// What comes of a document: so many of its citations, and what is wanted of the bibliography.
 fn answer_of(
     alloc: Global,
     options: &Options,
-    found: &FoundStyle,
-    references: &References,
-    cited: &Cited,
-    locale: &LocaleChain<'_>,
+    document: &Document<'_>,
+    count: usize,
 ) -> Result<Answer, CommandError> {
-    let document = Document {
-        style: &found.style,
-        locale,
-        references,
-        citations: &cited.citations,
-        // whatever is printed, year suffixes and numbers follow the bibliography
-        lists_items: true,
-    };
     match document.answer(alloc) {
         Ok(mut answer) => {
-            answer.citations.truncate(cited.count);
+            answer.citations.truncate(count);
             Ok(answer)
         }
         Err(error) => Err(placed(alloc, options, error)?),
