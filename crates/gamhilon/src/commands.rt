@@ -131,14 +131,16 @@ fn print_document(
     let files = locales_of(rt, options, language)?;
     let locale = LocaleChain::new(rt.alloc(), language, &found.style.locales, &files)?;
     let is_whole = options.format == OutputFormat::Json;
-    let document = Document {
-        style: &found.style,
-        locale: &locale,
+    let lists_items = is_whole || printed == Printed::Bibliography;
+    let answer = answer_of(
+        rt.alloc(),
+        options,
+        found,
         references,
-        citations: &cited.citations,
-        lists_items: is_whole || printed == Printed::Bibliography,
-    };
-    let answer = answer_of(rt.alloc(), options, &document, cited.count)?;
+        cited,
+        &locale,
+        lists_items,
+    )?;
     let marks = locale.quote_marks();
     if is_whole {
         return print_json(rt, &found.style, &cited.citations, &answer, marks);
@@ -149,16 +151,26 @@ fn print_document(
     }
 }
 
-/// What comes of a document: so many of its citations, and what is wanted of the bibliography.
+/// What comes of a document: the citations of the file, and the bibliography if it is wanted.
 fn answer_of(
     alloc: Global,
     options: &Options,
-    document: &Document<'_>,
-    count: usize,
+    found: &FoundStyle,
+    references: &References,
+    cited: &Cited,
+    locale: &LocaleChain<'_>,
+    lists_items: bool,
 ) -> Result<Answer, CommandError> {
+    let document = Document {
+        style: &found.style,
+        locale,
+        references,
+        citations: &cited.citations,
+        lists_items,
+    };
     match document.answer(alloc) {
         Ok(mut answer) => {
-            answer.citations.truncate(count);
+            answer.citations.truncate(cited.count);
             Ok(answer)
         }
         Err(error) => Err(placed(alloc, options, error)?),
