@@ -2,8 +2,8 @@
 """published.py PROGRAM [COUNT..]: citations in published styles by the program gamhilon, and by pandoc --citeproc.
 
 PROGRAM is crates/gamhilon/out/gamhilon. For each of three styles and each count of citations (1600 and 6400 where none is told), prints
-the processor time and the most memory of one run of each that writes all citations as text, and how much longer the program takes for
-more citations. There are half as many works as citations, of families that share authors and years, so that cites have to be told
+the processor time and the memory of the fastest of five runs of each that writes all citations as text, and how much longer the
+program takes for more citations. There are half as many works as citations, of families that share authors and years, so that cites have to be told
 apart; each fourth citation has two cites, and each third a locator. Needs pandoc and Debian's citation-style-language-styles.
 """
 import json
@@ -14,6 +14,7 @@ import tempfile
 
 STYLES = ('apa', 'ieee', 'chicago-fullnote-bibliography')
 FOLDER = '/usr/share/citation-style-language/styles'
+RUNS = 5
 FAMILIES = ('Adams', 'Brown', 'Costa', 'Doe', 'Evans', 'Fischer', 'Garcia', 'Hansen', 'Ito', 'Jones')
 GIVEN = ('Anna', 'Ben', 'Clara', 'David', 'Emma', 'Felix', 'Grace', 'Hugo')
 
@@ -47,7 +48,12 @@ def markdown(cites):
 
 
 def measured(words, folder):
-    """The seconds of a processor and the bytes of memory that a command takes."""
+    """The seconds of a processor and the bytes of memory that a command takes, where it is fastest."""
+    return min(measured_once(words, folder) for _ in range(RUNS))
+
+
+def measured_once(words, folder):
+    """The same of one run."""
     with open(os.devnull, 'w') as nothing:
         process = subprocess.Popen(words, stdout=nothing, cwd=folder)
         _, status, usage = os.wait4(process.pid, 0)
