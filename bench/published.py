@@ -3,8 +3,9 @@
 
 PROGRAM is crates/gamhilon/out/gamhilon. For each of three styles and each count of citations (1600 and 6400 where none is told), prints
 the processor time and the memory of the fastest of five runs of each that writes all citations as text, and how much longer the
-program takes for more citations. There are half as many works as citations, of families that share authors and years, so that cites have to be told
-apart; each fourth citation has two cites, and each third a locator. Needs pandoc and Debian's citation-style-language-styles.
+program takes for more citations. There are half as many works as citations, of families that share authors and years, so that cites
+have to be told apart; each fourth citation has two cites, and each third a locator. Needs pandoc and Debian's
+citation-style-language-styles.
 """
 import json
 import os

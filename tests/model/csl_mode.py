@@ -9,7 +9,7 @@ from dataclasses import dataclass
 from typing import Optional
 
 from bibliography import first_field
-from cites import note_of
+from cites import OfItem, note_of
 from csl_authors import substitute_repeated
 from csl_mentions import Mention, groups_of
 from csl_names import told_by_names
@@ -24,7 +24,7 @@ FORM_WORDS = ('counted', 'family', 'initials', 'given')
 
 
 @dataclass(eq=False)
-class CslCite:
+class CslCite(OfItem):
     """A cite in its place."""
     request: int
     place: int
@@ -45,14 +45,6 @@ class CslCite:
     override: Optional[str] = None
     verdict: Optional[str] = None
     collapsed: bool = False
-
-    @property
-    def key(self):
-        return self.item['entry']
-
-    @property
-    def is_hidden(self):
-        return self.item.get('hidden', False)
 
 
 class CslMode:
