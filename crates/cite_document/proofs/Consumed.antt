@@ -2,7 +2,7 @@
 use Rattle.std.proofs.Common.{◌≡◌, ℕ, ◌<◌, List, [], ◌++◌, Option, Some, None, length, take, IfSome, refl, sym, ap, ◌∙◌, subst, append_assoc, append-nil}
 use Rattle.std.specs.Io.KnownBytes.{Consumes, IsAtEnd}
 
--- the reader, which had o left at first, has n left, and bs came, through a buffer that keeps its room
+-- the reader, which had o left at first, has n left, and bs came, through a buffer that keeps its length
 pub record Reading (o n : Option (List ℕ)) (bs : List ℕ) (first room : ℕ) : Type 0 where
   pub came : Consumes o n bs
   pub same_room : room ≡ first

@@ -39,7 +39,7 @@ fn read_by<R: Read>(alloc: Global, reader: &mut R, buffer: &mut [u8]) -> Result<
 ///
 /// # Errors
 /// `Output` where a read fails, or where the input isn't at its end after 1,048,576 reads of at
-/// most 65,536 bytes; `OutOfMemory` where there is no room for it.
+/// most 65,536 bytes; `OutOfMemory` where there is no memory for it.
 pub fn read_input<R: Read>(alloc: Global, reader: &mut R) -> Result<Vec<u8>, RunError>
     ensures whole { IfOk result
         (λ bytes. IfSome (R.remaining reader.old) (λ left. bytes.items ≡ left)) }

@@ -50,6 +50,6 @@ module _ {E P : Type 0} where
     abbrev pub suffix_marks : List (Member E P) → List (Place × DisambiguateState)
     suffix_marks cites = map (λ m. (m.place, suffix_among cites m)) (first_cites cites)
 
-    -- the same, where the document shows dates (or does not) and some style asks for suffixes
+    -- the same where dates are shown and some style asks for suffixes, and else none
     abbrev pub year_suffix_marks : Bool → List (Member E P) → List (Place × DisambiguateState)
     year_suffix_marks dated cites = if dated && adds_suffix cites then suffix_marks cites else []

@@ -132,9 +132,10 @@ fn items_by_means<T: EntryLike, P: Drop, W: CiteWriter<T, P>>(
 
 /// The bibliography of a style, where works are told apart as CSL 1.0.2 has it: an item for each of
 /// the cites at these places, which are the first ones of its entries, in its order, by the means
-/// at the same index. Each is written by what holds of its cite, but without a locator and as
-/// of no position; then authors that repeat are replaced (`substitute_repeated_authors`), and
-/// where second fields are aligned its first field is taken out. Each rendering is counted.
+/// at the same index. Each is written by what holds of its cite, but without a locator, and of
+/// positions `subsequent` alone holds; then authors that repeat are replaced
+/// (`substitute_repeated_authors`), and where second fields are aligned its first field is taken
+/// out. Each rendering is counted.
 ///
 /// # Errors
 /// The writer's; a want of memory among others.

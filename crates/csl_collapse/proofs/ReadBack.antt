@@ -15,7 +15,8 @@ use Rattle.csl_trees.specs.Tree.{find_elem}
 use Rattle.csl_trees.specs.declared.elem.ElemMeta.TheVariants as meta
 use Rattle.csl_passes.specs.Renders.{ItemRender}
 use Rattle.csl_collapse.specs.Collapsed.{collapsed_cites}
-use Rattle.csl_collapse.specs.NumberLaws.{AreDrawnTogether, AreNextShown, CanBeReadBack, IsInnerToOneRun, WasHid, between, is_hidden, numbers_of, override_at}
+use Rattle.csl_collapse.specs.NumberLaws.{AreCollapsed, AreNextShown, CanBeReadBack, IsInnerToOneRun, WasHid, is_hidden, numbers_of, override_at}
+use Rattle.csl_lookup.specs.Between.{between}
 use Rattle.csl_collapse.specs.NumberRuns.{en_dash, ends_collapsed, follows_collapsed, is_inner, is_run, number_at, number_collapsed, shown_number}
 use Rattle.csl_collapse.specs.Stretches.{after_collapse, places}
 use Rattle.csl_collapse.specs.YearStretches.{cut_to_date, cut_to_suffix, has_later_suffix, is_later_in_stretch, follows_stretch, year_collapsed}
@@ -215,7 +216,7 @@ module _ {E P : Type 0} (after : Option (List ℕ)) (cites : List (ItemRender E 
         ap (option_and_then (λ c. c.delimiter_override)) (at-place (number_collapsed after cites) q cites ∙ ap (option_map (number_collapsed after cites q)) c.1)
         ∙ ap (λ b. if b then Some en_dash else if follows_collapsed ns q then after else c.0.delimiter_override) ends-at
 
-    together : AreDrawnTogether cites done p q
+    together : AreCollapsed cites done p q
     together = record {
       all_were_hid = λ i u v. ((shown-at cites i (up-from ns i (up-at i (omega arith) v))).not_hidden, around.between_hidden i u v);
       numbers_between = subst (λ xs. slice_range xs (p + 1) q ≡ between (slice_index xs p) (slice_index xs q))

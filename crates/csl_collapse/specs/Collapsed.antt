@@ -24,7 +24,7 @@ module _ {E P : Type 0} where
   collapsed_cites None citation cites = cites
   collapsed_cites (Some kind) citation cites = by_places (collapsed_by kind citation cites) cites
 
-  -- the cites of a request, drawn together as its style asks for
+  -- the cites of a request, collapsed as its style asks for
   abbrev pub collapsed : CiteRender E P → CiteRender E P
   collapsed r = let citation = r.request.style.citation in
       record r { items = collapsed_cites citation.collapse citation r.items }

@@ -1,15 +1,11 @@
--- What a caller may rely on where numbers are drawn together, without reading how runs are hidden.
-use Rattle.std.specs.Prelude.{◌≡◌, ℕ, ◌+◌, ◌-◌, ◌<◌, Bool, true, false, List, Option, Some, length, map, slice_get, slice_index, slice_range}
-use Rattle.std.specs.List.{range_with_len}
+-- What a caller may rely on where numbers collapse, without reading how runs are hidden.
+use Rattle.std.specs.Prelude.{◌≡◌, ℕ, ◌+◌, ◌<◌, Bool, true, false, List, Option, Some, length, map, slice_get, slice_index, slice_range}
 use Rattle.std.specs.Option.{option_and_then, option_map_or}
+use Rattle.csl_lookup.specs.Between.{between}
 use Rattle.csl_style_values.specs.declared.style.Collapse.{Collapse}
 use Rattle.csl_style_values.specs.declared.style.Collapse.TheVariants.{CitationNumber}
 use Rattle.csl_passes.specs.Renders.{ItemRender}
 use Rattle.csl_collapse.specs.NumberRuns.{en_dash, is_run, shown_number}
-
--- the numbers strictly between two
-abbrev pub between : ℕ → ℕ → List ℕ
-between a b = range_with_len (a + 1) (b - (a + 1))
 
 module _ {E P : Type 0} where
   -- the cite at k is hidden
@@ -40,7 +36,7 @@ module _ {E P : Type 0} (cites collapsed : List (ItemRender E P)) where
 
   -- the cites between p and q: collapsing hid them all, their numbers in order are exactly those
   -- strictly between the numbers of p and q, and a dash stands before q
-  pub record AreDrawnTogether (p q : ℕ) : Type 0 where
+  pub record AreCollapsed (p q : ℕ) : Type 0 where
     pub all_were_hid : (k : ℕ) → p < k → k < q → WasHid k
     pub numbers_between : slice_range (numbers_of collapsed) (p + 1) q
         ≡ between (slice_index (numbers_of collapsed) p) (slice_index (numbers_of collapsed) q)
@@ -64,6 +60,6 @@ module _ {E P : Type 0} (cites collapsed : List (ItemRender E P)) where
     -- where collapsing hid one of the cites between two shown ones, what is hidden there can be
     -- read back
     pub hidden_can_be_read_back : (p q k : ℕ) → AreNextShown p q → p < k → k < q → WasHid k
-        → AreDrawnTogether p q
+        → AreCollapsed p q
     -- what collapsing hid is inside exactly one run
     pub hidden_in_one_run : (k : ℕ) → WasHid k → IsInnerToOneRun k

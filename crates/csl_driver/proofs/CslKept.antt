@@ -1,14 +1,13 @@
 -- The laws of entries, of their states and suffixes, and of costs hold of every account.
-use Rattle.std.proofs.Common.{◌≡◌, ℕ, ◌+◌, ◌*◌, ◌-◌, ◌^◌, ◌≤◌, Bool, true, false, Option, List, filter, length, map, ap, sym, subst, ◌∙◌, arith}
-use Rattle.std.specs.Prelude.{if◌then◌else◌, is_some, min, not}
+use Rattle.std.proofs.Common.{◌≡◌, ℕ, ◌+◌, ◌*◌, ◌-◌, ◌^◌, ◌≤◌, Bool, true, List, filter, length, map, ap, sym, subst, ◌∙◌, arith}
+use Rattle.std.specs.Prelude.{min, not}
 use Rattle.std.specs.Cmp.{IsEquivalence}
-use Rattle.std.specs.List.{AllZip, list_any}
+use Rattle.std.specs.List.{AllZip}
 use Rattle.std.proofs.Math.ListN.{length-map}
 use Rattle.std.proofs.lemmas.List.FromFn.{length-range_with_len}
 use Rattle.csl_assembly.specs.declared.rendered.Rendered.{Rendered}
 use Rattle.csl_driver.specs.Account.{where_listed}
 use Rattle.csl_driver.specs.Answer.{Job}
-use Rattle.csl_driver.specs.CslAccount.{has_names, rounds_of}
 use Rattle.csl_driver.specs.CslAnswer.{entry_suffixes, listed, mentions, read, states}
 use Rattle.csl_driver.specs.CslByEntry.{entries_had, states_had}
 use Rattle.csl_driver.specs.CslLaws.{HasCitedEntries, HasCosts, TellsWorksApart, laters_had}
@@ -26,20 +25,13 @@ use Rattle.csl_tables.specs.Tables.{all_tasks, mentions_in}
 use Rattle.csl_tables.specs.declared.subject.Subject.{Subject}
 use Rattle.csl_told_laws.specs.Pairs.{AreMentionsInPairs}
 use Rattle.csl_told_laws.specs.SuffixLaws.{NothingIsLeft, SuffixesCount}
-use Rattle.csl_told_laws.specs.TellingLaws.{KeepsTellingLaws, laters_in}
+use Rattle.csl_told_laws.specs.TellingLaws.{KeepsTellingLaws, has_names, laters_in, rounds_of}
+use Rattle.csl_told_laws.proofs.Bounded.{three-at-most}
 use Rattle.csl_told_laws.proofs.Kept.{keeps-laws}
 use Rattle.csl_told_laws.proofs.Paired.{entries-in-order, twice-as-many}
 use Rattle.csl_told_laws.proofs.Settled.{settled, third-table}
 use Rattle.csl_writers.specs.Tasks.{CiteTaskValue}
 use Rattle.csl_writers.specs.Writing.{Writing}
-
-one-at-most : (b : Bool) → (if b then 1 else 0) ≤ 1
-one-at-most true = omega arith
-one-at-most false = omega arith
-
-three-at-most : (states : List MentionState) (suffixes : List (Option ℕ)) → rounds_of states suffixes ≤ 3
-three-at-most states suffixes =
-    omega (arith, one-at-most (list_any has_names states), one-at-most (list_any (λ s. s.chosen) states), one-at-most (list_any is_some suffixes))
 
 -- counts that were counted otherwise
 tasks-and-others : (tasks twice n named chosen cites listed others : ℕ) → tasks ≡ twice + named + chosen → twice ≡ 2 * n → listed ≡ others → tasks + cites + listed ≡ 2 * n + named + chosen + cites + others

@@ -17,7 +17,7 @@ use Rattle.csl_arranging.specs.declared.request.RequestedCite.{RequestedCite as 
 use Rattle.csl_blocks.specs.Collapsed.{collapsed, delimiter_of as year_delimiter}
 use Rattle.csl_blocks.specs.declared.years.BlockYear.{BlockYear}
 use Rattle.csl_collapse.specs.NumberLaws.{AreNextShown, WasHid, is_hidden, override_at}
-use Rattle.csl_driver.specs.CslReadBack.{HiddenCanBeReadBack, IsBetweenShown, suffix_of}
+use Rattle.csl_driver.specs.CslReadBack.{HiddenCanBeReadBack, suffix_of}
 use Rattle.csl_driver.proofs.CslLong.{blocks-long, both-long, ranges-long}
 use Rattle.csl_driver.proofs.CslTold.{StandsThere, plain_cites, plain_one, stand-there}
 use Rattle.csl_entries.specs.Entries.{place}
@@ -26,7 +26,8 @@ use Rattle.csl_notes.specs.declared.notes.CiteNotes.{CiteNotes}
 use Rattle.csl_notes.specs.declared.repeats.Position.{Position}
 use Rattle.csl_passes.specs.Renders.{CiteRender, ItemRender}
 use Rattle.csl_passes.specs.Request.{RequestedCite, Request}
-use Rattle.csl_run_laws.specs.ReadBack.{AreNextShown as AreShownNext, CanBeReadBack as RangesLaw, RangedAreShown, WasHid as IsInside, between, holds_at, read_at}
+use Rattle.csl_lookup.specs.Between.{between}
+use Rattle.csl_run_laws.specs.ReadBack.{AreNextShown as AreShownNext, CanBeReadBack as RangesLaw, IsBetweenShown, RangedAreShown, WasHid as IsInside, holds_at, read_at}
 use Rattle.csl_run_laws.proofs.Numbers.{numbers-read-back}
 use Rattle.csl_run_laws.proofs.Suffixes.{suffixes-read-back}
 use Rattle.csl_runs.specs.NumberRanges.{number_ranges}
@@ -197,7 +198,7 @@ module _ {X E P : Type 0} (hidden : X → Bool) (class number : X → Option ℕ
       dash : override_at after q ≡ Some en_dash
 
     module _ (law : RangesLaw xs cs hidden class number) where
-      between-shown : (k : ℕ) → WasHid before after k → IsBetweenShown before after k
+      between-shown : (k : ℕ) → WasHid before after k → IsBetweenShown (AreNextShown before after) k
       between-shown k h =
           let b = law.hidden_between_shown k (inside k h) in
           record { first = b.first; last = b.last; next_shown = next-shown b.first b.last b.next_shown; is_between = b.is_between }

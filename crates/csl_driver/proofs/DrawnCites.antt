@@ -76,7 +76,7 @@ module _ {E P : Type 0} where
   stays-without None citation cites is = refl
   stays-without (Some kind) citation cites is = cc
 
-  -- drawn together where no cite has a purpose, and else as they were
+  -- collapsed where no cite has a purpose, and else as they were
   pub read-back : ((c : CiteRender E P) → CanBeReadBack c.items (collapsed c).items c.request.style.citation.collapse) → (c : CiteRender E P) → IsReadBack c (collapsed_finally c)
   read-back law c = by (has_no_purpose c.items) refl
     where

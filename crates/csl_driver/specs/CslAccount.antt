@@ -1,34 +1,21 @@
 -- The account of an answer in which works are told apart as CSL 1.0.2 has it.
-use Rattle.std.specs.Prelude.{ℕ, ◌+◌, Bool, true, false, not, List, [], ◌∷◌, Option, find, is_some, length, if◌then◌else◌}
-use Rattle.std.specs.List.{filter_map, list_any}
+use Rattle.std.specs.Prelude.{ℕ, ◌+◌, Bool, true, false, not, List, [], ◌∷◌, find, length, if◌then◌else◌}
+use Rattle.std.specs.List.{filter_map}
 use Rattle.csl_entries.specs.Entries.{distinct}
 use Rattle.csl_mentions.specs.declared.state.MentionState.{MentionState}
 use Rattle.csl_passes.specs.Request.{cited, cites_of}
 use Rattle.csl_tables.specs.Tables.{all_tasks}
+use Rattle.csl_told_laws.specs.TellingLaws.{rounds_of}
 use Rattle.csl_writers.specs.Writing.{Writing}
 use Rattle.csl_driver.specs.Account.{listed_count}
 use Rattle.csl_driver.specs.Answer.{Job}
 use Rattle.csl_driver.specs.CslAnswer.{entry_suffixes, listed, mentions, read, states}
-
--- one where this holds of some member
-abbrev pub one_if_any : {X : Type 0} → (X → Bool) → List X → ℕ
-one_if_any p xs = if list_any p xs then 1 else 0
 
 -- every second member, with the first one or without it
 abbrev pub every_second : {X : Type 0} → Bool → List X → List X
 every_second taken [] = []
 every_second taken (x ∷ xs) =
     if taken then x ∷ every_second (not taken) xs else every_second (not taken) xs
-
--- some state has names
-abbrev pub has_names : MentionState → Bool
-has_names state = is_some state.names
-
--- how many of names, choices and suffixes told something apart
-abbrev pub rounds_of : List MentionState → List (Option ℕ) → ℕ
-rounds_of states suffixes = one_if_any has_names states
-    + one_if_any (λ s. s.chosen) states
-    + one_if_any is_some suffixes
 
 -- the entries of the bibliography, each as it is cited first
 abbrev pub entries_told : {E P : Type 0} → (E → E → Bool) → Job E P → List E

@@ -1,6 +1,6 @@
 -- What a caller may rely on of an answer in which works are told apart as CSL 1.0.2 has it, and of
 -- its account, without reading how these are made.
-use Rattle.std.specs.Prelude.{◌≡◌, ℕ, ◌+◌, ◌*◌, ◌-◌, ◌^◌, ◌≤◌, Bool, true, not, List, None, Some, filter, length, map, min}
+use Rattle.std.specs.Prelude.{◌≡◌, ℕ, ◌+◌, ◌*◌, ◌-◌, ◌^◌, ◌≤◌, Bool, true, not, List, None, Some, filter, length, min}
 use Rattle.std.specs.List.{AllZip, range_with_len}
 use Rattle.csl_assembly.specs.declared.rendered.Rendered.{Rendered}
 use Rattle.csl_entries.specs.Entries.{distinct, is_in}
@@ -15,11 +15,11 @@ use Rattle.csl_told_laws.specs.Ambiguous.{ConditionHolds, OnlyAmbiguous}
 use Rattle.csl_told_laws.specs.Growing.{StatesGrow}
 use Rattle.csl_told_laws.specs.Shown.{NamesTell}
 use Rattle.csl_told_laws.specs.SuffixLaws.{NothingIsLeft, SuffixesCount}
+use Rattle.csl_told_laws.specs.TellingLaws.{has_names, rounds_of}
 use Rattle.csl_writers.specs.Writing.{Writing}
 use Rattle.csl_driver.specs.Account.{where_listed}
 use Rattle.csl_driver.specs.Answer.{Job, used_order}
 use Rattle.csl_driver.specs.AnswerLaws.{AreInOrder, HaveNumbersOnce}
-use Rattle.csl_driver.specs.CslAccount.{has_names, rounds_of}
 use Rattle.csl_driver.specs.CslAnswer.{listed, mentions, read}
 use Rattle.csl_driver.specs.CslByEntry.{entries_had, states_had}
 use Rattle.csl_driver.specs.CslCitations.{ComeArranged, IsListedByMeans}

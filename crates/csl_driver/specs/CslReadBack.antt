@@ -1,10 +1,11 @@
 -- What a caller may rely on where arranging hides cites, without reading how ranges are found: what
 -- is hidden can be read back from what is shown.
 use Rattle.std.specs.Prelude.{◌≡◌, ℕ, ◌+◌, ◌<◌, ◌≤◌, ◌⊎◌, Bool, List, Option, Some, map, option_map, slice_range}
-use Rattle.csl_collapse.specs.NumberLaws.{AreDrawnTogether, AreNextShown, WasHid, override_at}
+use Rattle.csl_collapse.specs.NumberLaws.{AreCollapsed, AreNextShown, WasHid, override_at}
 use Rattle.csl_entries.specs.Entries.{place}
 use Rattle.csl_passes.specs.Renders.{CiteRender, ItemRender}
-use Rattle.csl_run_laws.specs.ReadBack.{between, read_at}
+use Rattle.csl_lookup.specs.Between.{between}
+use Rattle.csl_run_laws.specs.ReadBack.{IsBetweenShown, read_at}
 use Rattle.csl_style_values.specs.declared.style.Collapse.{Collapse}
 use Rattle.csl_told_cites.specs.Arranging.{en_dash}
 use Rattle.csl_told_cites.specs.Mentions.{entry_suffix}
@@ -12,9 +13,9 @@ use Rattle.csl_writers.specs.Writing.{Writing}
 use Rattle.csl_driver.specs.Answer.{Job}
 use Rattle.csl_driver.specs.CslAnswer.{entry_suffixes, listed, shown_mentions}
 
--- ranges of citation numbers are drawn together, or of suffixes
-abbrev pub DrawsRanges : Option Collapse → Type 0
-DrawsRanges collapse = (collapse ≡ Some Collapse.CitationNumber)
+-- ranges of citation numbers collapse, or of suffixes
+abbrev pub CollapsesRanges : Option Collapse → Type 0
+CollapsesRanges collapse = (collapse ≡ Some Collapse.CitationNumber)
     ⊎ (collapse ≡ Some Collapse.YearSuffixRanged)
 
 -- the suffix that a cite is told, if its entry has one
@@ -23,13 +24,6 @@ suffix_of i = i.properties.speculative.means.suffix
 
 -- of the cites of a request in their final order, and of the same as they are arranged
 module _ {E P : Type 0} (ordered arranged : List (ItemRender E P)) where
-  -- k stands between two shown cites
-  pub record IsBetweenShown (k : ℕ) : Type 0 where
-    pub first : ℕ
-    pub last : ℕ
-    pub next_shown : AreNextShown ordered arranged first last
-    pub is_between : (first < k) × (k < last)
-
   -- where suffixes are of classes
   module _ (class : ItemRender E P → Option ℕ) where
     -- the cites between p and q: arranging hid them all, their suffixes are of the class of those
@@ -47,15 +41,16 @@ module _ {E P : Type 0} (ordered arranged : List (ItemRender E P)) where
 
     -- the law, for a style with this collapse
     pub record HiddenCanBeReadBack (collapse : Option Collapse) : Type 0 where
-      -- nothing is hidden but where ranges are drawn together
-      pub only_ranges_hide : (k : ℕ) → WasHid ordered arranged k → DrawsRanges collapse
+      -- nothing is hidden but where ranges collapse
+      pub only_ranges_hide : (k : ℕ) → WasHid ordered arranged k → CollapsesRanges collapse
       -- what arranging hid stands between two shown cites
-      pub hidden_between_shown : (k : ℕ) → WasHid ordered arranged k → IsBetweenShown k
+      pub hidden_between_shown : (k : ℕ) → WasHid ordered arranged k
+          → IsBetweenShown (AreNextShown ordered arranged) k
       -- where it hid one of the cites between two shown ones, what is hidden there can be read
       -- back: from their citation numbers
       pub numbers_read_back : collapse ≡ Some Collapse.CitationNumber
           → (p q k : ℕ) → AreNextShown ordered arranged p q → p < k → k < q
-          → WasHid ordered arranged k → AreDrawnTogether ordered arranged p q
+          → WasHid ordered arranged k → AreCollapsed ordered arranged p q
       -- or from their suffixes
       pub suffixes_read_back : collapse ≡ Some Collapse.YearSuffixRanged
           → (p q k : ℕ) → AreNextShown ordered arranged p q → p < k → k < q

@@ -1,8 +1,9 @@
 //! What an answer cost in which works are told apart as CSL 1.0.2 has it, and by what they are.
 ghost use Rattle.std.specs.Prelude.{◌≡◌, true, false, if◌then◌else◌, IfOk, is_some, map};
 ghost use Rattle.std.specs.List.{list_any};
-ghost use Rattle.csl_driver.specs.CslAccount.{entries_told, every_second, has_names, rounds_of};
+ghost use Rattle.csl_driver.specs.CslAccount.{entries_told, every_second};
 ghost use Rattle.csl_driver.specs.DraftView.{job_in};
+ghost use Rattle.csl_told_laws.specs.TellingLaws.{has_names, rounds_of};
 
 use crate::draft::Draft;
 use csl_base::entry::EntryLike;

@@ -143,8 +143,8 @@ impl<'a, T: EntryLike, P: Eq + Drop> BibliographyDriver<'a, T, P> {
         self.answer_with(&request, mode, writer)
     }
 
-    /// Answers all requests with so many rounds, as this writer writes: rings are refused, the
-    /// entries that are cited are listed, and what is then known is finished.
+    /// Answers all requests in this mode, as this writer writes: rings are refused, the entries that
+    /// are cited are listed, and what is then known is finished.
     ///
     /// # Errors
     /// Those of `finish_with`.

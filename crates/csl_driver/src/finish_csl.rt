@@ -24,9 +24,9 @@ impl<'a, T: EntryLike, P: Eq + Drop> BibliographyDriver<'a, T, P> {
     /// Answers all requests: a citation for each, and the bibliography, where its style has one.
     /// Works are told apart as CSL 1.0.2 has it (disambiguation); the account tells by what.
     ///
-    /// Each entry has two mentions, the first and a later one, as its first cite in the requests is
-    /// written. Mentions of several entries that read alike are told apart by names, as the style
-    /// of each mention allows; then by the condition `disambiguate`, if they test it; and entries
+    /// Each entry has two mentions: the first reads as its first cite, the later one as a cite that
+    /// names it again. Mentions of several entries that read alike are told apart by names, as the
+    /// style of each allows; then by the condition `disambiguate`, if they test it; and entries
     /// whose later mentions still read alike get year suffixes, in the order of the bibliography.
     /// Each of the three is tried once, and every cite reads by what tells its mention apart.
     ///

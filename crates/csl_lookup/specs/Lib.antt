@@ -5,6 +5,7 @@ pub mod States
 pub mod Means
 pub mod ValueLaws
 pub mod BracketPairs
+pub mod Between
 pub mod Years
 pub mod SuffixLetters
 pub mod Lookup

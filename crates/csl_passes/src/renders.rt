@@ -83,7 +83,7 @@ impl<'r, 'a, T, P: Drop> Cites<'r, 'a, T, P> {
     ghost use Rattle.std.specs.Prelude.{◌≡◌, ◌++◌, ◌∷◌, [], IfOk, OnOk};
     ghost use Rattle.csl_passes.specs.RendersView.{render_view, renders_view};
 
-    /// No cites yet, with room for those of so many requests.
+    /// No cites yet, with capacity for those of so many requests.
     ///
     /// # Errors
     /// Where memory is refused.

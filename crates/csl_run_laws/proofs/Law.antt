@@ -10,7 +10,8 @@ use Rattle.csl_runs.specs.declared.collapsed.CollapsedCite.{CollapsedCite}
 use Rattle.csl_runs.specs.declared.collapsed.Delimiter.{Delimiter}
 use Rattle.csl_runs.proofs.Linked.{IsSound, came_before, came_here, ends, goes_on, inner}
 use Rattle.csl_runs.proofs.Tests.{clash}
-use Rattle.csl_run_laws.specs.ReadBack.{AreNextShown, AreReadBack, CanBeReadBack, WasHid, between, holds_at, is_hidden, read_at}
+use Rattle.csl_lookup.specs.Between.{between}
+use Rattle.csl_run_laws.specs.ReadBack.{AreNextShown, AreReadBack, CanBeReadBack, WasHid, holds_at, is_hidden, read_at}
 use Rattle.csl_run_laws.proofs.Around.{AreEnds, around, linked, within}
 use Rattle.csl_run_laws.proofs.Placed.{found, rising}
 

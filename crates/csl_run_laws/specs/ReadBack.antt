@@ -1,8 +1,7 @@
--- What a caller may rely on where cites are drawn together in ranges, without reading how ranges
--- are found.
-use Rattle.std.specs.Prelude.{◌≡◌, ℕ, ◌+◌, ◌-◌, ◌<◌, ◌≤◌, All, Bool, true, false, ◌||◌, List, Option, Some, is_some, length, map, option_and_then, option_map, slice_get, slice_range}
-use Rattle.std.specs.List.{range_with_len}
+-- What a caller may rely on where cites collapse to ranges, without reading how ranges are found.
+use Rattle.std.specs.Prelude.{◌≡◌, ℕ, ◌+◌, ◌<◌, ◌≤◌, All, Bool, true, false, ◌||◌, List, Option, Some, is_some, length, map, option_and_then, option_map, slice_get, slice_range}
 use Rattle.std.specs.Option.{option_map_or}
+use Rattle.csl_lookup.specs.Between.{between}
 use Rattle.csl_runs.specs.NumberRanges.{number_ranges}
 use Rattle.csl_runs.specs.SuffixStretches.{suffix_stretches}
 use Rattle.csl_runs.specs.declared.collapsed.CollapsedCite.{CollapsedCite}
@@ -10,9 +9,12 @@ use Rattle.csl_runs.specs.declared.collapsed.Delimiter.{Delimiter}
 use Rattle.csl_runs.specs.declared.numbers.NumberedCite.{NumberedCite}
 use Rattle.csl_runs.specs.declared.suffixes.SuffixedCite.{SuffixedCite}
 
--- the numbers strictly between two
-abbrev pub between : ℕ → ℕ → List ℕ
-between a b = range_with_len (a + 1) (b - (a + 1))
+-- k stands between two that follow each other in this way
+pub record IsBetweenShown (AreNextShown : ℕ → ℕ → Type 0) (k : ℕ) : Type 0 where
+  pub first : ℕ
+  pub last : ℕ
+  pub next_shown : AreNextShown first last
+  pub is_between : (first < k) × (k < last)
 
 -- the test holds of the cite at k
 abbrev pub holds_at : {X : Type 0} → (X → Bool) → List X → ℕ → Bool
@@ -40,13 +42,6 @@ module _ {X : Type 0} (cites : List X) (collapsed : List CollapsedCite) (hidden 
     pub last_shown : is_hidden q ≡ false
     pub between_hidden : (k : ℕ) → p < k → k < q → is_hidden k ≡ true
 
-  -- k stands between two such cites
-  pub record IsBetweenShown (k : ℕ) : Type 0 where
-    pub first : ℕ
-    pub last : ℕ
-    pub next_shown : AreNextShown first last
-    pub is_between : (first < k) × (k < last)
-
   -- of cites with numbers, each of a class
   module _ (class number : X → Option ℕ) where
     -- the cites between p and q: collapsing hid them all, they are of the class of p and q, their
@@ -66,7 +61,7 @@ module _ {X : Type 0} (cites : List X) (collapsed : List CollapsedCite) (hidden 
     -- the law
     pub record CanBeReadBack : Type 0 where
       -- what collapsing hid stands between two shown cites
-      pub hidden_between_shown : (k : ℕ) → WasHid k → IsBetweenShown k
+      pub hidden_between_shown : (k : ℕ) → WasHid k → IsBetweenShown AreNextShown k
       -- where collapsing hid one of the cites between two shown ones, what is hidden there can be
       -- read back
       pub hidden_can_be_read_back : (p q k : ℕ) → AreNextShown p q → p < k → k < q → WasHid k

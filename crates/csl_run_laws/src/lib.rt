@@ -1,5 +1,4 @@
-//! Laws of ranges: what a caller may rely on of cites that are drawn together, whatever cites there
-//! are.
+//! Laws of ranges: what a caller may rely on of cites that collapse, whatever cites there are.
 #![tactic(auto)]
 
 pub mod laws;

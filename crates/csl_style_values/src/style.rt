@@ -85,7 +85,7 @@ pub enum DisambiguationRule {
     ByCite,
 }
 
-/// How neighbouring cites are drawn together (CSL 1.0.2, cite collapsing).
+/// How neighbouring cites collapse (CSL 1.0.2, cite collapsing).
 #[derive(Clone, Copy, PartialEq, Eq)]
 pub enum Collapse {
     CitationNumber,

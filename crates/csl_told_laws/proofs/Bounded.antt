@@ -1,6 +1,6 @@
 -- Rounds and tasks have bounds.
-use Rattle.std.proofs.Common.{◌≡◌, ℕ, ◌+◌, Bool, List, Option, [], ◌∷◌, ◌++◌, filter, length, map, ap, sym, ◌∙◌, arith}
-use Rattle.std.specs.Prelude.{is_some}
+use Rattle.std.proofs.Common.{◌≡◌, ℕ, ◌+◌, ◌≤◌, Bool, true, false, List, Option, ◌++◌, filter, length, map, ap, sym, ◌∙◌, arith}
+use Rattle.std.specs.Prelude.{if◌then◌else◌, is_some}
 use Rattle.std.specs.List.{list_any, zip}
 use Rattle.std.proofs.lemmas.List.{length-append, length-map}
 use Rattle.csl_mentions.specs.declared.state.MentionState.{MentionState}
@@ -9,10 +9,18 @@ use Rattle.csl_tables.specs.Asked.{untold}
 use Rattle.csl_tables.specs.Tables.{all_tasks, first_tasks, second_table, tasks_where, third_table, with_names}
 use Rattle.csl_tables.specs.declared.subject.Subject.{Subject}
 use Rattle.csl_told_laws.specs.Pairs.{AreMentionsInPairs}
-use Rattle.csl_told_laws.specs.TellingLaws.{HasBounds, has_names}
+use Rattle.csl_told_laws.specs.TellingLaws.{HasBounds, has_names, rounds_of}
 use Rattle.csl_told_laws.proofs.Listing.{count-within, mapped-count, zipped-count}
 use Rattle.csl_told_laws.proofs.Paired.{twice-as-many}
 use Rattle.csl_told_laws.proofs.Settled.{settled, third-table}
+
+one-at-most : (b : Bool) → (if b then 1 else 0) ≤ 1
+one-at-most true = omega arith
+one-at-most false = omega arith
+
+pub three-at-most : (states : List MentionState) (suffixes : List (Option ℕ)) → rounds_of states suffixes ≤ 3
+three-at-most states suffixes =
+    omega (arith, one-at-most (list_any has_names states), one-at-most (list_any (λ s. s.chosen) states), one-at-most (list_any is_some suffixes))
 
 module _ {M : Type 0} (write : M → MentionState → Written) (subjects : List (Subject M)) where
   -- as many tasks as states that changed
@@ -54,7 +62,7 @@ module _ {M : Type 0} (write : M → MentionState → Written) (subjects : List 
       let names = count-within has_names last in
       let choices = count-within (λ (s : MentionState). s.chosen) last in
       record {
-        three_rounds = count-within (λ told. told) (list_any has_names last ∷ list_any (λ s. s.chosen) last ∷ list_any is_some suffixes ∷ []);
+        three_rounds = three-at-most last suffixes;
         tasks = all-count;
         six_an_entry = omega (arith, all-count, two, long, names, choices);
       }

@@ -1,5 +1,5 @@
 -- What a caller may rely on of the states and the suffixes that tell mentions apart.
-use Rattle.std.specs.Prelude.{◌≡◌, ℕ, ◌*◌, ◌+◌, ◌≤◌, ◌∷◌, [], Bool, List, Option, filter, is_some, length, not}
+use Rattle.std.specs.Prelude.{◌≡◌, ℕ, ◌*◌, ◌+◌, ◌≤◌, Bool, List, Option, filter, if◌then◌else◌, is_some, length, not}
 use Rattle.std.specs.List.{list_any}
 use Rattle.csl_mentions.specs.declared.mention.Mention.{Mention}
 use Rattle.csl_mentions.specs.declared.state.MentionState.{MentionState}
@@ -11,13 +11,19 @@ use Rattle.csl_told_laws.specs.Growing.{StatesGrow}
 use Rattle.csl_told_laws.specs.Shown.{NamesTell}
 use Rattle.csl_told_laws.specs.SuffixLaws.{NothingIsLeft, SuffixesCount}
 
+-- one where this holds of some member
+abbrev pub one_if_any : {X : Type 0} → (X → Bool) → List X → ℕ
+one_if_any p xs = if list_any p xs then 1 else 0
+
+-- some state has names
 abbrev pub has_names : MentionState → Bool
 has_names state = is_some state.names
 
 -- how many of names, the condition and suffixes tell something apart
 abbrev pub rounds_of : List MentionState → List (Option ℕ) → ℕ
-rounds_of states suffixes = length (filter (λ told. told) (list_any has_names states
-    ∷ list_any (λ s. s.chosen) states ∷ list_any is_some suffixes ∷ []))
+rounds_of states suffixes = one_if_any has_names states
+    + one_if_any (λ s. s.chosen) states
+    + one_if_any is_some suffixes
 
 module _ {M : Type 0} (write : M → MentionState → Written) (subjects : List (Subject M)) where
   -- the later mentions of all entries, as they read in the end

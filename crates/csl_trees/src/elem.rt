@@ -111,8 +111,7 @@ impl ElemChildren {
         self.0.is_empty()
     }
 
-    /// Adds a child at the end. Where the room is used up it is doubled, and it begins with that
-    /// for one.
+    /// Adds a child at the end. Where the capacity is used up it is doubled, and the first is one.
     ///
     /// Fails where memory is refused.
     pub fn push(&mut self, child: ElemChild) -> Result<(), AllocError>

@@ -23,7 +23,7 @@ use csl_picking::notes::{Called, Form, Notes, Suppressed};
 use csl_picking::picking::pick_layout;
 use std::alloc::{AllocError, Global};
 
-// For how many pieces there is room at first: those of two names and a year in a group.
+// For how many pieces there is memory at first: those of two names and a year in a group.
 const ROOM: usize = 16;
 
 /// What is picked, and the formatting in which it is written.

@@ -119,9 +119,9 @@ module _ (items drawn : List (ItemRender Sample ℕ)) (own : IsPermutation three
       ap (λ l. length (places_of (shown l))) (stays (purpose-there (has_no_purpose items) refl)) ∙ shown-count items
       ∙ sum_by-IsPermutation one_if_shown three_cites (map cite_of items) own
 
--- cites are drawn together though one has a purpose
-pub drawn-together : (account : Account Sample) → ¬ KeepsLaws same_sample nat_eq letters three with_a_purpose (collapsed_all_the_same, account)
-drawn-together account h =
+-- cites collapse though one has a purpose
+pub collapsed-too : (account : Account Sample) → ¬ KeepsLaws same_sample nat_eq letters three with_a_purpose (collapsed_all_the_same, account)
+collapsed-too account h =
     let c = h.citations in
     let all : AllAnswer letters 0 with_a_purpose.requests collapsed_all_the_same.citations =
     all-answer letters 0 with_a_purpose.requests c.settled c.drawn collapsed_all_the_same.citations c.asked_for c.runs c.own_cites c.made c.shows in

@@ -46,7 +46,7 @@ pub fn shown_in_spite_of_the_caller()
     answers_keep_laws::<Sample, u64>();
 }
 
-/// The numbers of three cites are drawn together, though the last of them has a purpose of its own.
+/// The numbers of three cites collapse, though the last of them has a purpose of its own.
 pub fn collapsed_in_spite_of_purpose()
     ensures refuted { (account : Account Sample)
         → ¬ KeepsLaws same_sample nat_eq letters RoundMode.Three with_a_purpose

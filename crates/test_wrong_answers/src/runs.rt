@@ -21,7 +21,7 @@ pub fn run_over_a_gap()
     collapsed_can_be_read_back::<Sample, u64>();
 }
 
-/// Of 1 to 5 the caller hid 3, and 1 to 5 is drawn together: between 1 and 5 the reader finds 3.
+/// Of 1 to 5 the caller hid 3, and 1 to 5 collapses: between 1 and 5 the reader finds 3.
 /// They stay as they are.
 pub fn run_over_a_hidden_cite()
     ensures refuted { ¬ CanBeReadBack with_a_hidden_cite over_the_hidden_cite

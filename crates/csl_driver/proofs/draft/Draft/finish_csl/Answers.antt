@@ -3,7 +3,8 @@ use Rattle.std.specs.Prelude.{option_map}
 use Rattle.csl_arranging.specs.Requests.{requests_view as all_arranged_view}
 use Rattle.csl_assembly.specs.ByMeans.{bibliography_by_means, tasks_by_means}
 use Rattle.csl_driver.specs.AreCitesOf.{AreCitesOf}
-use Rattle.csl_driver.specs.CslAccount.{every_second, rounds_of}
+use Rattle.csl_driver.specs.CslAccount.{every_second}
+use Rattle.csl_told_laws.specs.TellingLaws.{rounds_of}
 use Rattle.csl_driver.specs.CslAnswer.{cites_arranged, item_means, listed, listed_cites, numbers_by, told_citations}
 use Rattle.csl_driver.specs.CslParts.{all_located}
 use Rattle.csl_driver.specs.CslTasks.{mention_tasks, told_item_tasks}
