@@ -3,8 +3,8 @@
 standard output, exit status and the line on standard error. Then it tries what only a process can show, holds the
 documents to docs/document.schema.json, compares PROGRAM with tests/model on random documents, and holds the model to what
 the documents must print. It has crates/test_calls, which is looked for beside it (../../test_calls/out/test_calls),
-answer the documents by the public calls: each by `finish` or, where it says so, by `finish_full`; and where there is a
-NAME.account, by `finish_counted` or `finish_full` once more, of which the account is printed, or why there is none; where
+answer the documents by the public calls: each by `finish` or, where it says so, by `finish_full` or `finish_csl`; and where
+there is a NAME.account, by `finish_counted` or that call once more, of which the account is printed, or why there is none; where
 there is a NAME.alone, each request by `standalone_citation`; where there is a NAME.passes, by the passes themselves, on cites
 that are written without a driver; where there is a NAME.equality, it is told which requests are equal to the first, and whether that
 for the bibliography is one for its style alone. A copy of each answer has to be equal to it. It tells where each document that is
