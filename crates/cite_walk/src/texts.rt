@@ -10,10 +10,12 @@ use csl_lookup::year::letters_of_suffix;
 use csl_references::rich_text::RichText;
 use csl_texts::numbers::is_numeric;
 use csl_texts::pages::page_ranges;
+use csl_vocabulary::locator::LocatorType;
 use csl_vocabulary::term::{PlainTerm, TermName};
 use csl_vocabulary::variable::{NumberVariable, TextVariable, Variable};
 use std::alloc::AllocError;
 use style_file::element::{Text, TextSource, VariableForm};
+use style_file::style::PageRangeFormat;
 
 /// What terms are marked as.
 pub const TERM: Mark = Mark::Other(0);
@@ -240,15 +242,26 @@ impl<'s> Walk<'s, '_> {
         let alloc = self.alloc();
         let plain = value.text().plain(alloc)?;
         let format = match variable {
-            NumberVariable::Page | NumberVariable::Locator => {
-                self.scene.style.options.page_range_format
-            }
+            NumberVariable::Page => self.scene.style.options.page_range_format,
+            NumberVariable::Locator => self.locator_range_format(),
             _ if is_numeric(plain.as_str()) => None,
             _ => return self.output.push_rich(value.text()),
         };
         let delimiter = self.scene.locale.page_range_delimiter();
         let ranges = page_ranges(alloc, plain.as_str(), format, delimiter)?;
         self.output.push_rich(&plain_value(alloc, ranges.as_str())?)
+    }
+}
+
+impl Walk<'_, '_> {
+    /// The form of ranges in the locator: that of pages is for pages alone.
+    fn locator_range_format(&self) -> Option<PageRangeFormat> {
+        match &self.locator {
+            Some(locator) if locator.kind == LocatorType::Page => {
+                self.scene.style.options.page_range_format
+            }
+            _ => None,
+        }
     }
 }
 
