@@ -67,6 +67,8 @@ TEXT = '<text variable="title"/>'
 LOCATED = '<group delimiter=" "><label variable="locator" form="short"/><text variable="locator"/></group>'
 AUTHOR_YEAR = '<group delimiter=" ">' + names('form="short" and="text"') + YEAR + '</group>'
 COLLATED = ['role', 'Role', 'rôle', 'roles', 'Smith Zed', 'Smithson Al']
+CHINESE = [{'id': id, 'type': 'book', 'author': [{'family': it[0], 'given': it[1:]} for it in names]}
+           for id, names in (('two', ['王小明', '李四']), ('three', ['王小明', '李四', '张三']))]
 FOUR = [several('one', 2000, 'Ape', 'Bee', 'Cat', 'Dog')]
 
 CASES = [
@@ -85,6 +87,9 @@ CASES = [
     cite('all turned round', 'Name: `name-as-sort-order="all"`, `sort-separator`',
          names('name-as-sort-order="all" sort-separator="; " delimiter=" / "'),
          [several('a', 2000, 'Ape', 'Bee')], ['Ape; Ax / Bee; Bx']),
+    cite('a word without spaces', 'Name: `and`; citeproc-js: a word of a script without spaces has none beside it, nor a comma of itself',
+         names('and="text"'), CHINESE, ['王小明和李四', '王小明, 李四和张三'], [cites('two'), cites('three')],
+         locale='<locale><terms><term name="and">和</term></terms></locale>'),
     cite('et al.', 'Name: `et-al-min`, `et-al-use-first`; of one name no comma stands before the term', names('form="short"'), FOUR,
          ['Ape et al.'], in_citation='et-al-min="3" et-al-use-first="1"'),
     cite('et al. of two', 'Name: a delimiter before `et al.` behind two names or more', names('form="short"'), FOUR,

@@ -76,14 +76,21 @@ impl<'s> NameList<'s, '_> {
         if !is_last || word.is_empty() {
             return output.push_str(self.rules.delimiter);
         }
+        let is_tight = is_unspaced(word);
         let precedes = match self.rules.precedes_last {
-            DelimiterPrecedes::Contextual => names.len() > 2,
+            DelimiterPrecedes::Contextual => names.len() > 2 && !is_tight,
             DelimiterPrecedes::AfterInvertedName => {
                 self.is_inverted_at(names, place.saturating_sub(1))
             },
             DelimiterPrecedes::Always => true,
             DelimiterPrecedes::Never => false,
         };
+        if is_tight {
+            if precedes {
+                output.push_str(self.rules.delimiter)?;
+            }
+            return output.push_str(word);
+        }
         if precedes {
             output.push_str(self.rules.delimiter.trim_end())?;
         }
@@ -202,6 +209,12 @@ impl<'s> NameList<'s, '_> {
         output.close()?;
         Ok(())
     }
+}
+
+/// Whether a word is of a script that is written without spaces: neither a space nor a delimiter by
+/// itself is beside it then, as in `王小明和李四`.
+fn is_unspaced(word: &str) -> bool {
+    word.chars().any(|c| c.is_alphabetic()) && !is_spaced(word)
 }
 
 /// The element of a part of a name.
