@@ -73,6 +73,9 @@ FOUR = [several('one', 2000, 'Ape', 'Bee', 'Cat', 'Dog')]
 
 CASES = [
     # Names
+    cite('names of no variable', 'Substitute: where there are no names, what stands in is written, and of that the first that is there',
+         '<names><substitute><text variable="genre"/><text variable="title"/><text variable="publisher"/></substitute></names>', [BOOK],
+         ['the art of rivers']),
     cite('two names', 'Name: `and`, `delimiter-precedes-last` is `contextual`: no comma of two', names('and="text"'),
          [several('a', 2000, 'Ape', 'Bee')], ['Ax Ape and Bx Bee']),
     cite('three names', 'Name: `contextual` has a delimiter before the last of three', names('and="text"'),

@@ -3,7 +3,7 @@ use crate::formatting::{display_of, formatting_of, setting_of, text_case_of, wor
 use csl_vocabulary::term::{TERM_FORMS, TermForm};
 use csl_vocabulary::variable::NameVariable;
 use std::alloc::Global;
-use style_elements::attributes::{named, needed, needed_value, number, text, truth};
+use style_elements::attributes::{attribute, named, needed_value, number, text, truth};
 use style_elements::children::{csl_name, only_child};
 use style_elements::reading::Reading;
 use style_elements::shape::{ET_AL, NAME, NAME_PART, NAMES, NAMES_LABEL, check};
@@ -52,10 +52,13 @@ pub(crate) fn names_with(
     })
 }
 
-/// The variables of a `names`. Those that CSL 1.0.2 lacks are left out.
+/// The variables of a `names`. Those that CSL 1.0.2 lacks are left out. Without the attribute there
+/// are none, so that what stands in is written.
 fn name_variables(element: &Element, reading: &mut Reading<'_>) -> Result<Vec<NameVariable>, Stop> {
-    let attribute = needed(reading.alloc, element, "variable")?;
     let mut variables = Vec::new(reading.alloc);
+    let Some(attribute) = attribute(element, "variable") else {
+        return Ok(variables);
+    };
     for word in attribute.value.as_str().split_ascii_whitespace() {
         if let Some(variable) = name_variable(reading, attribute.offset, word)? {
             variables.push(variable)?;
