@@ -3,7 +3,7 @@ use crate::program::{MOST_STEPS, NamesInUse, Program, ProgramError, Step};
 use std::alloc::{AllocError, Global};
 use style_file::choose::{Branch, Choose};
 use style_file::element::{RenderingElement, Text, TextSource};
-use style_file::formatting::Affixes;
+use style_file::formatting::{Affixes, Formatting};
 use style_file::names::Names;
 use style_file::style::Macro;
 
@@ -258,6 +258,7 @@ fn names_in_use<'s>(names: &'s Names, around: Option<NamesInUse<'s>>) -> NamesIn
             } else {
                 own.affixes
             },
+            formatting: over(outer.formatting, own.formatting),
             ..own
         },
         Some(outer) => NamesInUse {
@@ -266,6 +267,17 @@ fn names_in_use<'s>(names: &'s Names, around: Option<NamesInUse<'s>>) -> NamesIn
             ..own
         },
         None => own,
+    }
+}
+
+/// The formatting, with what is asked for in its place.
+fn over(formatting: Formatting, asked: Formatting) -> Formatting {
+    Formatting {
+        font_style: asked.font_style.or(formatting.font_style),
+        font_variant: asked.font_variant.or(formatting.font_variant),
+        font_weight: asked.font_weight.or(formatting.font_weight),
+        text_decoration: asked.text_decoration.or(formatting.text_decoration),
+        vertical_align: asked.vertical_align.or(formatting.vertical_align),
     }
 }
 
