@@ -216,10 +216,6 @@ CASES = [
     # Text cases and formatting
     cite('a title in capitals', 'Text-case: `title`; small words stay, but for the first', '<text variable="title" text-case="title"/>',
          [{**BOOK, 'title': 'the art of rivers and lakes'}], ['The Art of Rivers and Lakes']),
-    cite('languages of titles', 'Title Case Conversion: an item is English where its language begins with `en`',
-         '<text variable="title" text-case="title"/>', [{**BOOK, 'id': it, 'language': it} for it in ('eng', 'English', 'en_US', 'fro', 'es')],
-         ['The Art of Rivers', 'The Art of Rivers', 'The Art of Rivers', 'the art of rivers', 'the art of rivers'],
-         [cites(it) for it in ('eng', 'English', 'en_US', 'fro', 'es')]),
     cite('capitalize-first', 'Text-case: `capitalize-first`', '<text variable="title" text-case="capitalize-first"/>', [BOOK],
          ['The art of rivers']),
     cite('upper case', 'Text-case: `uppercase`', '<text variable="title" text-case="uppercase"/>', [BOOK], ['THE ART OF RIVERS']),

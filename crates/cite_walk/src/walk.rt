@@ -60,17 +60,8 @@ fn language_of(
     cite: &CiteFacts<'_>,
 ) -> Result<Language, AllocError> {
     match cite.reference.text(TextVariable::Language) {
-        Some(language) => Ok(told_language(language.plain(alloc)?.as_str())),
+        Some(language) => Ok(Language::of_tag(language.plain(alloc)?.as_str())),
         None => Ok(scene.locale.language()),
-    }
-}
-
-/// The language that an item tells. One that begins with `en`, as `eng` and `English`, is English
-/// (CSL 1.0.2, "Title Case Conversion").
-fn told_language(text: &str) -> Language {
-    match text.get(..2) {
-        Some(start) if start.eq_ignore_ascii_case("en") => Language::English,
-        _ => Language::of_tag(text),
     }
 }
 
