@@ -45,6 +45,7 @@ pub(crate) fn means_raise_names(alloc: Global) -> Result<bool, Amiss> {
         DisambiguatedNameForm::Short,
     ];
     let means = of_names(alloc, &least)?;
+    let are_raised = are_raised(alloc, &means)?;
     let copy = means.clone()?;
-    Ok(are_raised(alloc, &means)? && copy == means)
+    Ok(are_raised && copy == means)
 }
