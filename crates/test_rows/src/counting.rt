@@ -123,14 +123,26 @@ fn listed(alloc: Global) -> Result<Vec<LayoutRenderingElement>, AllocError> {
     Ok(vec![in alloc; authors(alloc, None)?, title_element(), year()]?)
 }
 
+/// The style with a bibliography of titles.
+fn with_titles(alloc: Global, mut style: IndependentStyle) -> Result<IndependentStyle, AllocError> {
+    match layout_of(alloc, title_element()) {
+        Ok(titles) => {
+            style.bibliography = Some(bibliography_of(titles));
+            Ok(style)
+        }
+        Err(error) => {
+            drop(style);
+            Err(error)
+        }
+    }
+}
+
 /// A style of these and their letters, with a bibliography of titles.
 fn listing_titles(alloc: Global) -> Result<IndependentStyle, AllocError> {
-    let titles = layout_of(alloc, title_element())?;
     let elements = listed(alloc)?;
     let mut style = titles_and_years(alloc)?;
     style.citation.layout.elements = elements;
-    style.bibliography = Some(bibliography_of(titles));
-    Ok(style)
+    with_titles(alloc, style)
 }
 
 /// A style of authors and years, by which the second cite of an author is cut to its year.
@@ -160,6 +172,11 @@ fn take<'a>(
     }
 }
 
+/// A cite of the entry.
+fn cite<'a>(alloc: Global, cited: &'a Counting) -> Result<Vec<Item<'a>>, AllocError> {
+    Ok(vec![in alloc; CitationItem::with_entry(cited)]?)
+}
+
 /// Has the driver take cites of the first entry, of the second, and of the first again.
 fn cite_thrice<'a>(
     alloc: Global,
@@ -169,8 +186,7 @@ fn cite_thrice<'a>(
     b: &'a Counting,
 ) -> Result<(), Amiss> {
     for cited in [a, b, a] {
-        let items: Vec<Item<'a>> = vec![in alloc; CitationItem::with_entry(cited)]?;
-        take(driver, style, items)?;
+        take(driver, style, cite(alloc, cited)?)?;
     }
     Ok(())
 }
@@ -249,15 +265,16 @@ fn asked_by(alloc: Global, style: &IndependentStyle, part: Part) -> Result<u64, 
     Ok(asked)
 }
 
-/// How often the first rendering and the last one of a cite for each purpose ask. The last one of a
-/// cite of the year alone is its date.
-fn asked_by_purposes(alloc: Global, style: &IndependentStyle) -> Result<u64, Amiss> {
-    let date = asked_by(alloc, style, Part::Date)?;
-    let mut asked = asked_by(alloc, style, Part::Cite(Some(CitePurpose::Year), None))?;
-    asked = asked.wrapping_add(date);
-    for purpose in [CitePurpose::Author, CitePurpose::Full, CitePurpose::Prose] {
-        let each = asked_by(alloc, style, Part::Cite(Some(purpose), None))?;
-        asked = asked.wrapping_add(each).wrapping_add(each);
+/// How often these renderings ask, each so many times.
+fn asked_by_each(
+    alloc: Global,
+    style: &IndependentStyle,
+    parts: &[(Part, u64)],
+) -> Result<u64, Amiss> {
+    let mut asked = 0u64;
+    for (part, times) in parts {
+        let each = asked_by(alloc, style, *part)?;
+        asked = asked.wrapping_add(each.wrapping_mul(*times));
     }
     Ok(asked)
 }
@@ -346,15 +363,23 @@ fn renders_of_all(
     renders_of_full(driver, style)
 }
 
-/// How often these are to ask: nine renderings of cites, two for each purpose, and one for each
-/// item of the bibliography, which has the key besides.
+/// How often these are to ask: nine renderings of cites, the first and the last one for each
+/// purpose, and one for each item of the bibliography, which has the key besides. The last one of a
+/// cite of the year alone is its date.
 fn asked_by_all(alloc: Global, style: &IndependentStyle) -> Result<u64, Amiss> {
-    let cite = asked_by(alloc, style, Part::Cite(None, None))?;
     if asked_by(alloc, style, Part::Item)? != 1 {
         return Err(Amiss("an item asks for more than its title"));
     }
-    let asked = cite.wrapping_mul(9).wrapping_add(3 * (1 + 1));
-    Ok(asked.wrapping_add(asked_by_purposes(alloc, style)?))
+    let parts = [
+        (Part::Cite(None, None), 9),
+        (Part::Cite(Some(CitePurpose::Author), None), 2),
+        (Part::Cite(Some(CitePurpose::Year), None), 1),
+        (Part::Date, 1),
+        (Part::Cite(Some(CitePurpose::Full), None), 2),
+        (Part::Cite(Some(CitePurpose::Prose), None), 2),
+    ];
+    let asked = asked_by_each(alloc, style, &parts)?;
+    Ok(asked.wrapping_add(3 * (1 + 1)))
 }
 
 /// Whether they ask so often.

@@ -16,7 +16,7 @@ use csl_driver::laws::{
     suffixes_count_entries,
 };
 use csl_driver::mode::mode_equality_decides;
-use csl_driver::rendered::{Rendered, RenderedCitation};
+use csl_driver::rendered::{BibliographyItem, Rendered, RenderedCitation};
 use csl_driver::request::{BibliographyRequest, CitationRequest};
 use csl_limits::limits::limits_equality_decides;
 use std::alloc::{AllocError, Global};
@@ -40,7 +40,7 @@ fn entries_of(alloc: Global, keys: &[&str]) -> Result<Vec<PlainEntry>, AllocErro
 }
 
 /// A request that cites the entry.
-fn cite<'a>(
+pub(crate) fn cite<'a>(
     alloc: Global,
     style: &'a IndependentStyle,
     cited: &'a PlainEntry,
@@ -49,7 +49,7 @@ fn cite<'a>(
     Ok(CitationRequest::from_items(items, style, &[]))
 }
 
-pub(crate) fn take<'a>(driver: &mut Driver<'a>, request: Request<'a>) -> Result<(), Amiss> {
+fn take<'a>(driver: &mut Driver<'a>, request: Request<'a>) -> Result<(), Amiss> {
     match driver.citation(request) {
         Ok(()) => Ok(()),
         Err(refused) => {
@@ -72,9 +72,26 @@ pub(crate) fn take_each<'a>(
     Ok(())
 }
 
+/// The answer to one request.
+pub(crate) fn answer<'a>(
+    alloc: Global,
+    request: Request<'a>,
+    wanted: BibliographyRequest<'a, 'a, PlainEntry>,
+) -> Result<Rendered, Amiss> {
+    let mut driver: Driver<'a> = BibliographyDriver::new(alloc);
+    take(&mut driver, request)?;
+    Ok(driver.finish(wanted)?)
+}
+
 fn push_plain(text: &mut String, tree: &ElemChildren) -> Result<(), AllocError> {
     tree.write_plain(text)?;
     text.push_str("\n")
+}
+
+fn push_item(text: &mut String, item: &BibliographyItem) -> Result<(), AllocError> {
+    text.push_str(item.key.as_str())?;
+    text.push_str(" ")?;
+    push_plain(text, &item.content)
 }
 
 /// The citations as plain text, a line each, and then for each item its key and its content.
@@ -85,9 +102,7 @@ fn lines(alloc: Global, rendered: &Rendered) -> Result<String, AllocError> {
     }
     if let Some(bibliography) = &rendered.bibliography {
         for item in bibliography.items.as_slice() {
-            text.push_str(item.key.as_str())?;
-            text.push_str(" ")?;
-            push_plain(&mut text, &item.content)?;
+            push_item(&mut text, item)?;
         }
     }
     Ok(text)
@@ -162,12 +177,8 @@ fn noted_of<'a>(
     cited: &'a PlainEntry,
 ) -> Result<Rendered, Amiss> {
     let items: Vec<Item<'a>> = vec![in alloc; CitationItem::with_entry(cited)]?;
-    let mut driver: Driver<'a> = BibliographyDriver::new(alloc);
-    take(
-        &mut driver,
-        CitationRequest::new(items, style, None, &[], Some(7)),
-    )?;
-    Ok(driver.finish(wanted(style))?)
+    let request = CitationRequest::new(items, style, None, &[], Some(7));
+    answer(alloc, request, wanted(style))
 }
 
 /// The answer to that for an entry of the key a.

@@ -1,7 +1,7 @@
 //! What callers get from the laws of an answer, each once at a concrete type.
 use crate::amiss::Amiss;
 use crate::clients::{entry_of_number, hidden_between, letters_in_answer};
-use crate::csl_clients::letters_of_alike;
+use crate::csl_clients::letters_in_csl_answer;
 use crate::entries::issued;
 use crate::finish::{Driver, take_each};
 use csl_base::entry::PlainEntry;
@@ -119,11 +119,10 @@ fn are_lettered_by_csl(
 ) -> Result<bool, Amiss> {
     let mut driver = driver_from_two(alloc);
     take_each(alloc, &mut driver, style, entries)?;
-    let (rendered, account) = driver.finish_csl(BibliographyRequest::new(style, None, &[]))?;
-    let letters = letters_of_alike::<PlainEntry, Infallible>(alloc, &account, 0, 1);
+    let request = BibliographyRequest::new(style, None, &[]);
+    let (account, letters) = letters_in_csl_answer(alloc, driver, request, 0, 1)?;
     drop(account);
-    drop(rendered);
-    are_a_and_b(&letters?)
+    are_a_and_b(&letters)
 }
 
 /// Whether the letters of two works that read alike are so in this style, in either way.

@@ -1,9 +1,8 @@
 //! Requests of a prepared style have the answers of those of the style.
 use crate::amiss::Amiss;
-use crate::finish::{Driver, Request, take};
+use crate::finish::{Request, answer, cite};
 use csl_base::entry::PlainEntry;
 use csl_base::style::IndependentStyle;
-use csl_driver::driver::BibliographyDriver;
 use csl_driver::item::CitationItem;
 use csl_driver::prepared::PreparedStyle;
 use csl_driver::rendered::Rendered;
@@ -11,15 +10,6 @@ use csl_driver::request::{BibliographyRequest, CitationRequest};
 use csl_driver::terms::TermTables;
 use std::alloc::{AllocError, Global};
 use test_styles::styles::{entry, numeric};
-
-fn cite<'a>(
-    alloc: Global,
-    style: &'a IndependentStyle,
-    cited: &'a PlainEntry,
-) -> Result<Request<'a>, AllocError> {
-    let items = vec![in alloc; CitationItem::with_entry(cited)]?;
-    Ok(CitationRequest::new(items, style, None, &[], None))
-}
 
 fn cite_prepared<'a, 's: 'a>(
     alloc: Global,
@@ -36,17 +26,6 @@ fn prepared<'a>(alloc: Global, style: &'a IndependentStyle) -> Result<PreparedSt
         Ok(prepared) => Ok(prepared),
         Err(_) => Err(Amiss("the style has a ring")),
     }
-}
-
-/// The answer to one request.
-fn answer<'a>(
-    alloc: Global,
-    request: Request<'a>,
-    wanted: BibliographyRequest<'a, 'a, PlainEntry>,
-) -> Result<Rendered, Amiss> {
-    let mut driver: Driver<'a> = BibliographyDriver::new(alloc);
-    take(&mut driver, request)?;
-    Ok(driver.finish(wanted)?)
 }
 
 /// The answer to a cite and for a bibliography in a style.
