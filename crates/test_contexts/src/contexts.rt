@@ -235,7 +235,7 @@ fn print_language(
 ) -> Result<(), AllocError> {
     let asked = LocaleCode(String::from_str(rt.alloc(), "de-AT")?);
     let context = StyleContext::new(style, Some(&asked), files);
-    if let Some(found) = context.lookup_locale(|locale| language(locale)) {
+    if let Some(found) = context.lookup_locale(language) {
         let _ = println!(rt; "language of {}: {found}", context.locale());
     }
     Ok(())

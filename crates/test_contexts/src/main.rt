@@ -19,11 +19,11 @@ use csl_base::locale::Locale;
 use csl_base::style::IndependentStyle;
 use ended::Ended;
 use heights::keep_heights;
+use json_document::document::value_of;
 use json_document::entries::entries_of;
 use json_styles::locales::locales_at;
 use json_styles::styles::styles_of;
 use serde_json::Value;
-use std::alloc::Global;
 use std::io;
 use std::process::ExitCode;
 
@@ -54,15 +54,6 @@ fn called_of(
     match styles.first() {
         Some(named) => called(rt, asked, &named.style, &locales, document),
         None => Err(Ended::Document),
-    }
-}
-
-/// The JSON value that the text is.
-fn value_of(alloc: Global, text: &str) -> Result<Value, Ended> {
-    match Value::from_str(alloc, text) {
-        Ok(value) => Ok(value),
-        Err(error) if error.is_memory() => Err(Ended::Refused),
-        Err(_) => Err(Ended::Document),
     }
 }
 
