@@ -89,11 +89,21 @@ fn is_content(context: &mut Writing<'_>, affixes: &Affixes) -> Result<bool, Allo
     context.writing.has_content_since(&prefix)
 }
 
+/// The same in a context of its own, which is let go at once: to own less is cheaper to prove.
+fn is_content_alone(
+    alloc: Global,
+    style: &IndependentStyle,
+    affixes: &Affixes,
+) -> Result<bool, AllocError> {
+    let mut context = begin(alloc, style)?;
+    let outcome = is_content(&mut context, affixes);
+    drop(context);
+    outcome
+}
+
 /// Whether it is behind one space.
 fn is_content_behind_a_space(alloc: Global, style: &IndependentStyle) -> Result<bool, AllocError> {
-    let affixes = affixes(alloc, " ", "")?;
-    let mut context = begin(alloc, style)?;
-    is_content(&mut context, &affixes)
+    is_content_alone(alloc, style, &affixes(alloc, " ", "")?)
 }
 
 /// A text in quotes, and a space behind it that is there already.
@@ -217,7 +227,9 @@ fn print_term_alone(
     style: &IndependentStyle,
 ) -> Result<(), AllocError> {
     let mut context = begin(rt.alloc(), style)?;
-    print_term(rt, &mut context, &style.citation.name_options)
+    let outcome = print_term(rt, &mut context, &style.citation.name_options);
+    drop(context);
+    outcome
 }
 
 fn language<'l>(locale: &'l Locale) -> Option<&'l str> {

@@ -6,6 +6,7 @@ ghost use Rattle.csl_context.specs.WritingState.{state};
 
 use crate::contexts::{Writing, affixes, begin, formula, italic};
 use crate::ended::Ended;
+use csl_base::elem::ElemChildren;
 use csl_base::element::Affixes;
 use csl_base::entry::ChunkedString;
 use csl_base::formatting::Display;
@@ -243,21 +244,23 @@ fn make<'a>(
 /// Makes a call in a context of its own.
 fn make_alone(rt: &impl Eprint, asked: Asked<'_>, call: Call) -> Result<(), Ended> {
     let mut context = filled(rt, asked)?;
-    make(rt, asked, &mut context, call)
+    let outcome = make(rt, asked, &mut context, call);
+    drop(context);
+    outcome
 }
 
-fn flush(rt: &impl Eprint, asked: Asked<'_>) -> Result<(), Ended> {
+fn flush(rt: &impl Eprint, asked: Asked<'_>) -> Result<ElemChildren, AllocError> {
     let context = filled(rt, asked)?;
     named(rt, "flush");
-    let _tree = context.writing.flush()?;
-    Ok(())
+    context.writing.flush()
 }
 
 fn all(rt: &impl Eprint, asked: Asked<'_>) -> Result<(), Ended> {
     for call in CALLS {
         make_alone(rt, asked, call)?;
     }
-    flush(rt, asked)
+    done(flush(rt, asked))?;
+    Ok(())
 }
 
 /// Makes the calls of a context that take memory, in this style, and tells why they ended before
