@@ -5,6 +5,7 @@ ghost use Rattle.std.specs.Prelude.{◌≡◌, length};
 ghost use Rattle.csl_context.specs.WritingState.{state};
 
 use crate::calls::Request;
+use crate::equality::differ;
 use crate::passes::{Cite, Cites, Item, all_written};
 use cite_document::error::RunError;
 use csl_base::elem::{BufWriteFormat, Elem, ElemChild, ElemChildren, ElemMeta};
@@ -91,12 +92,16 @@ fn one_cite<'e>(
     Ok(one.items.len() == 1)
 }
 
+fn unset<T: Drop>(field: &mut Option<T>) {
+    *field = None;
+}
+
 /// A request of no cite, whose public fields are written once more.
 fn no_cite<'e>(rt: &(impl Eprint + AllocGlobal), style: &'e IndependentStyle) -> bool {
     let none: Vec<Item<'e>> = Vec::new(rt.alloc());
     named(rt, "from_items");
     let mut empty = CitationRequest::from_items(none, style, &[]);
-    empty.locale = None;
+    unset(&mut empty.locale);
     empty.locale_files = &[];
     empty.items.is_empty()
 }
@@ -106,8 +111,8 @@ fn wanted(rt: &impl Eprint, style: &IndependentStyle) -> bool {
     named(rt, "BibliographyRequest::new");
     let mut wanted: BibliographyRequest<PlainEntry> = BibliographyRequest::new(style, None, &[]);
     wanted.style = style;
-    wanted.locale = None;
-    wanted.order = None;
+    unset(&mut wanted.locale);
+    unset(&mut wanted.order);
     wanted.locale_files.is_empty()
 }
 
@@ -262,7 +267,7 @@ fn locales<'a>(
     named(rt, "StyleContext::new");
     let context = StyleContext::new(style, None, files);
     named(rt, "lookup_locale");
-    let found = context.lookup_locale(|locale| language(locale)) == Some("en-US");
+    let found = context.lookup_locale(language) == Some("en-US");
     named(rt, "locale");
     let code = context.locale() == "en-US";
     let term = terms(rt, context, entry, &style.settings.options)?;
@@ -403,25 +408,32 @@ fn hash_of(tree: &ElemChildren) -> u64 {
     hasher.finish()
 }
 
-/// Whether two trees that were made alike are equal, and hashed alike.
+/// Whether there is something.
+fn is_there<T: Drop>(found: Option<T>) -> bool {
+    found.is_some()
+}
+
+/// Whether two trees are equal, and hashed alike, until one of them loses what an element is.
+fn are_alike(rt: &impl Eprint, one: &ElemChildren, other: &mut ElemChildren) -> bool {
+    named(rt, "eq");
+    let is_equal = *one == *other;
+    named(rt, "hash");
+    let is_hashed_alike = hash_of(one) == hash_of(other);
+    named(rt, "remove_any_meta");
+    let is_removed = is_there(other.remove_any_meta());
+    is_equal && is_hashed_alike && is_removed && *one != *other
+}
+
+/// Whether two trees that were made alike are.
 fn compared(rt: &(impl Eprint + AllocGlobal)) -> Result<bool, AllocError> {
     named(rt, "prepare");
     let one = tree(rt.alloc())?;
     let mut other = tree(rt.alloc())?;
-    named(rt, "eq");
-    let is_equal = one == other;
-    named(rt, "hash");
-    let is_hashed_alike = hash_of(&one) == hash_of(&other);
-    named(rt, "remove_any_meta");
-    let removed = other.remove_any_meta();
-    Ok(is_equal && is_hashed_alike && removed.is_some() && one != other)
+    Ok(are_alike(rt, &one, &mut other))
 }
 
-/// A text and an element as children, and the text's formatting.
-fn children(rt: &(impl Eprint + AllocGlobal)) -> Result<bool, AllocError> {
-    named(rt, "prepare");
-    let text = String::from_str(rt.alloc(), "A")?;
-    let date = elem(rt.alloc(), "1999", ElemMeta::Date)?;
+/// The formatting of a text in italics.
+fn italics(rt: &impl Eprint) -> Formatting {
     let asked = StyleFormatting {
         font_style: Some(FontStyle::Italic),
         ..StyleFormatting::default()
@@ -429,14 +441,31 @@ fn children(rt: &(impl Eprint + AllocGlobal)) -> Result<bool, AllocError> {
     named(rt, "Formatting::default");
     let plain = Formatting::default();
     named(rt, "apply");
-    let italic = plain.apply(asked);
+    plain.apply(asked)
+}
+
+fn text_as_child(rt: &impl Eprint, text: String, formatting: Formatting) -> ElemChild {
     named(rt, "add_text");
-    let formatted = italic.add_text(text);
+    let formatted = formatting.add_text(text);
     named(rt, "ElemChild::from_text");
-    let child = ElemChild::from(formatted);
+    ElemChild::from(formatted)
+}
+
+fn elem_as_child(rt: &impl Eprint, elem: Elem) -> ElemChild {
     named(rt, "ElemChild::from_elem");
-    let other = ElemChild::from(date);
-    Ok(italic != plain && child.has_content() && other.has_content() && child != other)
+    ElemChild::from(elem)
+}
+
+/// A text and an element as children, and the text's formatting.
+fn children(rt: &(impl Eprint + AllocGlobal)) -> Result<bool, AllocError> {
+    named(rt, "prepare");
+    let text = String::from_str(rt.alloc(), "A")?;
+    let date = elem(rt.alloc(), "1999", ElemMeta::Date)?;
+    let italic = italics(rt);
+    let child = text_as_child(rt, text, italic);
+    let other = elem_as_child(rt, date);
+    let have_content = child.has_content() && other.has_content();
+    Ok(differ(child, other) && have_content && italic != Formatting::default())
 }
 
 // ---- stacks
