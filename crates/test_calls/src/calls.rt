@@ -79,10 +79,17 @@ fn take<'e>(driver: &mut Driver<'e>, request: Request<'e>) -> Result<bool, RunEr
         Ok(()) => Ok(false),
         Err(refused) => {
             let CitationRefused { request } = refused;
-            match driver.citation(request) {
-                Ok(()) => Ok(true),
-                Err(_refused) => Err(RunError::OutOfMemory),
-            }
+            take_again(driver, request)
+        }
+    }
+}
+
+fn take_again<'e>(driver: &mut Driver<'e>, request: Request<'e>) -> Result<bool, RunError> {
+    match driver.citation(request) {
+        Ok(()) => Ok(true),
+        Err(refused) => {
+            drop(refused);
+            Err(RunError::OutOfMemory)
         }
     }
 }
@@ -172,11 +179,28 @@ fn counted<'e>(
 fn print_copy(rt: &(impl Print + Eprint), rendered: &Rendered) -> Result<(), AllocError> {
     let _ = eprintln!(rt; "clone");
     let copy = rendered.clone()?;
-    let _ = println!(rt; "copy: {}", word(copy == *rendered));
+    let is_equal = copy == *rendered;
+    drop(copy);
+    let _ = println!(rt; "copy: {}", word(is_equal));
     Ok(())
 }
 
 /// Prints the answer, or whether a copy of it is equal to it.
+fn print_answer_or_copy(
+    rt: &(impl Print + Eprint),
+    rendered: &Rendered,
+    how: How,
+) -> Result<(), AllocError> {
+    match how {
+        How::Copies => print_copy(rt, rendered),
+        _ => {
+            print_answer(rt, rendered);
+            Ok(())
+        }
+    }
+}
+
+/// Answers by `finish`, and prints it.
 fn print_finished<'e>(
     rt: &(impl Print + Eprint),
     driver: Driver<'e>,
@@ -185,11 +209,9 @@ fn print_finished<'e>(
 ) -> Result<(), DriverError> {
     let _ = eprintln!(rt; "finish");
     let rendered = driver.finish(request)?;
-    match how {
-        How::Copies => print_copy(rt, &rendered)?,
-        _ => print_answer(rt, &rendered),
-    }
-    Ok(())
+    let printed = print_answer_or_copy(rt, &rendered, how);
+    drop(rendered);
+    Ok(printed?)
 }
 
 /// Prints the answer that has an account, or the account.
@@ -205,6 +227,8 @@ fn print_of_rounds<'e>(
         How::Account => print_account(rt, &account),
         _ => print_answer(rt, &rendered),
     }
+    drop(account);
+    drop(rendered);
     Ok(())
 }
 
@@ -221,6 +245,8 @@ fn print_of_csl<'e>(
         How::Account => print_csl_account(rt, &account),
         _ => print_answer(rt, &rendered),
     }
+    drop(account);
+    drop(rendered);
     Ok(())
 }
 
@@ -343,7 +369,9 @@ fn compare<'e, 'f: 'e>(
 ) -> Result<Seen, RunError> {
     print_copies(rt, requests)?;
     print_requests(rt, requests);
-    print_wanted(rt, &bibliography_request(rt.alloc(), job, files)?);
+    let wanted = bibliography_request(rt.alloc(), job, files)?;
+    print_wanted(rt, &wanted);
+    drop(wanted);
     if properties_differ() {
         Ok(Seen::Answer)
     } else {
@@ -380,6 +408,16 @@ fn answered_over<'e, 'f: 'e>(
     }
 }
 
+/// Does it with what the document asks for.
+fn answered_job(
+    rt: &(impl Print + Eprint + AllocGlobal),
+    job: &Job<'_>,
+    how: How,
+) -> Result<Seen, RunError> {
+    let files = TermTables::new(rt.alloc(), job.locales)?;
+    answered_over(rt, job, &files, how)
+}
+
 /// Does it with what the value asks for, of these styles, entries and locales.
 fn answered_of(
     rt: &(impl Print + Eprint + AllocGlobal),
@@ -391,16 +429,18 @@ fn answered_of(
 ) -> Result<Seen, RunError> {
     let found = found_styles(rt.alloc(), styles, object)?;
     let job = job_in(rt.alloc(), &found, entries, locales, object)?;
-    let files = TermTables::new(rt.alloc(), job.locales)?;
-    answered_over(rt, &job, &files, how)
+    let seen = answered_job(rt, &job, how);
+    drop(job);
+    seen
 }
 
 /// Does it with the value of a document.
 fn answered_in(
     rt: &(impl Print + Eprint + AllocGlobal),
-    object: &Value,
+    value: &Value,
     how: How,
 ) -> Result<Seen, RunError> {
+    let object = top_of(rt.alloc(), value)?;
     let styles = styles_of(rt.alloc(), object)?;
     let locales = locales_at(rt.alloc(), object, "locales")?;
     let entries = entries_of(rt.alloc(), object)?;
@@ -415,7 +455,9 @@ pub fn answered(
 ) -> Result<Seen, RunError> {
     let _ = eprintln!(rt; "prepare");
     let value = value_of(rt.alloc(), document)?;
-    answered_in(rt, top_of(rt.alloc(), &value)?, how)
+    let seen = answered_in(rt, &value, how);
+    drop(value);
+    seen
 }
 
 /// Prints what was written or read.

@@ -69,14 +69,18 @@ fn cites<'e>(rt: &impl Eprint, entry: &'e PlainEntry) -> bool {
     let dated = hidden.kind(CitePurpose::Year);
     named(rt, "with_last");
     let is_dated = dated.hidden && dated.purpose == Some(CitePurpose::Year);
-    is_dated && are_placed(&plain, &located, &dated)
+    let are_placed = are_placed(&plain, &located, &dated);
+    drop(dated);
+    drop(located);
+    drop(plain);
+    is_dated && are_placed
 }
 
 fn drivers(rt: &(impl Eprint + AllocGlobal)) {
     named(rt, "BibliographyDriver::new");
     let driver: BibliographyDriver<PlainEntry, Infallible> = BibliographyDriver::new(rt.alloc());
     named(rt, "with_citation_number_offset");
-    let _offset = driver.with_citation_number_offset(2);
+    drop(driver.with_citation_number_offset(2));
 }
 
 /// A request of one cite.
@@ -89,7 +93,9 @@ fn one_cite<'e>(
     let items: Vec<Item<'e>> = vec![in rt.alloc(); CitationItem::with_entry(entry)]?;
     named(rt, "CitationRequest::new");
     let one = CitationRequest::new(items, style, None, &[], Some(7));
-    Ok(one.items.len() == 1)
+    let is_one = one.items.len() == 1;
+    drop(one);
+    Ok(is_one)
 }
 
 fn unset<T: Drop>(field: &mut Option<T>) {
@@ -103,7 +109,9 @@ fn no_cite<'e>(rt: &(impl Eprint + AllocGlobal), style: &'e IndependentStyle) ->
     let mut empty = CitationRequest::from_items(none, style, &[]);
     unset(&mut empty.locale);
     empty.locale_files = &[];
-    empty.items.is_empty()
+    let is_empty = empty.items.is_empty();
+    drop(empty);
+    is_empty
 }
 
 /// A request for the bibliography, whose public fields are too.
@@ -113,7 +121,9 @@ fn wanted(rt: &impl Eprint, style: &IndependentStyle) -> bool {
     wanted.style = style;
     unset(&mut wanted.locale);
     unset(&mut wanted.order);
-    wanted.locale_files.is_empty()
+    let is_empty = wanted.locale_files.is_empty();
+    drop(wanted);
+    is_empty
 }
 
 /// Whether all but the ends are hidden.
@@ -176,7 +186,10 @@ fn properties(rt: &impl Eprint) -> bool {
     named(rt, "for_bibliography");
     let listed = cited.for_bibliography();
     let is_listed = listed.locator.is_none() && listed.ibid == IbidState::Ibid;
-    is_listed && listed.citation_number == 4 && sorted.speculative.citation_number == 3
+    let are_numbered = listed.citation_number == 4 && sorted.speculative.citation_number == 3;
+    drop(listed);
+    drop(sorted);
+    is_listed && are_numbered
 }
 
 /// Whether the one form is counted, then short, then as it is written there.
@@ -194,6 +207,7 @@ fn forms(rt: &(impl Eprint + AllocGlobal)) -> Result<bool, AllocError> {
         *form = DisambiguatedNameForm::LongFull;
     }
     let is_long = names.forms.as_slice().first() == Some(&DisambiguatedNameForm::LongFull);
+    drop(names);
     Ok(is_short && is_long)
 }
 
@@ -211,7 +225,9 @@ fn states(rt: &impl Eprint) -> bool {
     let other = suffix.may_disambiguate_with_year_suffix();
     named(rt, "max");
     let greatest = DisambiguateState::Choose.max(suffix);
-    mixed && !names && !choose && !other && greatest == DisambiguateState::YearSuffix(1)
+    let is_suffix = greatest == DisambiguateState::YearSuffix(1);
+    drop(greatest);
+    mixed && !names && !choose && !other && is_suffix
 }
 
 /// Whether a test of `disambiguate` and a suffix are told by a state, by means, and by neither.
@@ -254,7 +270,9 @@ fn terms<'a>(
     let properties: CiteProperties<'a, Infallible> = CiteProperties::for_sorting(None, 0);
     let cite = context.ctx(rt.alloc(), entry, properties, options)?;
     named(rt, "term");
-    Ok(cite.term(Term::Other(OtherTerm::EtAl), TermForm::Long, false) == Some("and others"))
+    let found = cite.term(Term::Other(OtherTerm::EtAl), TermForm::Long, false);
+    drop(cite);
+    Ok(found == Some("and others"))
 }
 
 /// A style's context in these files, which have one language and its `et-al`.
@@ -320,7 +338,9 @@ fn contexts<'a>(
         properties,
         options,
     )?;
-    taken_off(rt, &mut context, options)
+    let is_taken_off = taken_off(rt, &mut context, options);
+    drop(context);
+    is_taken_off
 }
 
 // ---- trees
@@ -329,18 +349,25 @@ fn text_child(alloc: Global, text: &str) -> Result<ElemChild, AllocError> {
     Ok(ElemChild::Text(Formatting::default().add_text(String::from_str(alloc, text)?)))
 }
 
-fn elem(alloc: Global, text: &str, meta: ElemMeta) -> Result<Elem, AllocError> {
-    Ok(Elem {
-        children: ElemChildren(vec![in alloc; text_child(alloc, text)?]?),
+/// This text alone.
+fn text_tree(alloc: Global, text: &str) -> Result<ElemChildren, AllocError> {
+    Ok(ElemChildren(vec![in alloc; text_child(alloc, text)?]?))
+}
+
+fn elem(children: ElemChildren, meta: ElemMeta) -> Elem {
+    Elem {
+        children,
         display: None,
         meta: Some(meta),
-    })
+    }
 }
 
 /// A names element that writes `A`, and behind it the date 1999.
 fn tree(alloc: Global) -> Result<ElemChildren, AllocError> {
-    let names = elem(alloc, "A", ElemMeta::Names(Seq::new(Vec::new(alloc))))?;
-    let date = elem(alloc, "1999", ElemMeta::Date)?;
+    let written = text_tree(alloc, "A")?;
+    let year = text_tree(alloc, "1999")?;
+    let names = elem(written, ElemMeta::Names(Seq::new(Vec::new(alloc))));
+    let date = elem(year, ElemMeta::Date);
     Ok(ElemChildren(vec![in alloc; ElemChild::Elem(names), ElemChild::Elem(date)]?))
 }
 
@@ -460,10 +487,10 @@ fn elem_as_child(rt: &impl Eprint, elem: Elem) -> ElemChild {
 fn children(rt: &(impl Eprint + AllocGlobal)) -> Result<bool, AllocError> {
     named(rt, "prepare");
     let text = String::from_str(rt.alloc(), "A")?;
-    let date = elem(rt.alloc(), "1999", ElemMeta::Date)?;
+    let year = text_tree(rt.alloc(), "1999")?;
     let italic = italics(rt);
     let child = text_as_child(rt, text, italic);
-    let other = elem_as_child(rt, date);
+    let other = elem_as_child(rt, elem(year, ElemMeta::Date));
     let have_content = child.has_content() && other.has_content();
     Ok(differ(child, other) && have_content && italic != Formatting::default())
 }

@@ -35,6 +35,14 @@ pub(crate) fn begin<'a>(
     StyleContext::new(style, None, &[]).ctx(alloc, options, properties, options)
 }
 
+/// The tree of what is written. A context is taken apart here alone: what is left of it has the proof
+/// go through all its parts.
+pub(crate) fn flushed(context: Writing<'_>) -> Result<ElemChildren, AllocError>
+    requires formats { length (state context.writing).formats ≡ 1 }
+{
+    context.writing.flush()
+}
+
 /// This formula.
 pub(crate) fn formula(alloc: Global, text: &str) -> Result<ChunkedString, AllocError> {
     let chunk = Chunk {
@@ -103,7 +111,10 @@ fn is_content_alone(
 
 /// Whether it is behind one space.
 fn is_content_behind_a_space(alloc: Global, style: &IndependentStyle) -> Result<bool, AllocError> {
-    is_content_alone(alloc, style, &affixes(alloc, " ", "")?)
+    let affixes = affixes(alloc, " ", "")?;
+    let is_content = is_content_alone(alloc, style, &affixes);
+    drop(affixes);
+    is_content
 }
 
 /// A text in quotes, and a space behind it that is there already.
@@ -171,8 +182,13 @@ fn written(
     part: Part<'_>,
 ) -> Result<ElemChildren, AllocError> {
     let mut context = begin(alloc, style)?;
-    push_part(alloc, &mut context, part)?;
-    context.writing.flush()
+    match push_part(alloc, &mut context, part) {
+        Ok(()) => flushed(context),
+        Err(error) => {
+            drop(context);
+            Err(error)
+        }
+    }
 }
 
 /// A formatting that is gone again, an element that is closed, and one that is dropped.
@@ -188,7 +204,9 @@ fn open_and_close(writing: &mut WritingContext<'_>) -> Result<(), AllocError> {
 /// Opens and closes them in a context of its own.
 fn open_and_close_alone(alloc: Global, style: &IndependentStyle) -> Result<(), AllocError> {
     let mut writing = WritingContext::new(alloc, &style.settings.options)?;
-    open_and_close(&mut writing)
+    let outcome = open_and_close(&mut writing);
+    drop(writing);
+    outcome
 }
 
 fn print_quote(rt: &impl Print, context: &Writing<'_>) {
@@ -272,7 +290,9 @@ fn print_affixes(
 ) -> Result<(), AllocError> {
     for (prefix, text) in [("(", "A"), ("(", ""), (". ", ".")] {
         let affixes = affixes(rt.alloc(), prefix, ")")?;
-        print_written(rt, style, "affixes", Part::InAffixes(&affixes, text))?;
+        let outcome = print_written(rt, style, "affixes", Part::InAffixes(&affixes, text));
+        drop(affixes);
+        outcome?;
     }
     Ok(())
 }
@@ -296,7 +316,9 @@ fn print_children(
     style: &IndependentStyle,
 ) -> Result<(), AllocError> {
     let formula = formula(rt.alloc(), "x")?;
-    print_written(rt, style, "children", Part::Children(&formula))
+    let outcome = print_written(rt, style, "children", Part::Children(&formula));
+    drop(formula);
+    outcome
 }
 
 /// Makes the calls of a context in this style, and prints what they give.

@@ -4,7 +4,7 @@
 ghost use Rattle.std.specs.Prelude.{◌≡◌, IfOk, length};
 ghost use Rattle.csl_context.specs.WritingState.{state};
 
-use crate::contexts::{Writing, affixes, begin, formula, italic};
+use crate::contexts::{Writing, affixes, begin, flushed, formula, italic};
 use crate::ended::Ended;
 use csl_base::elem::ElemChildren;
 use csl_base::element::Affixes;
@@ -34,7 +34,6 @@ enum ShortCall {
     EnsureSpace,
     PushStr,
     PushChunked,
-    PushLink,
     PushTransparent,
     PushQuotes,
     PopQuotes,
@@ -49,6 +48,7 @@ enum ShortCall {
 enum Call {
     /// By this name.
     Short(&'static str, ShortCall),
+    PushLink,
     PopFormat,
     CommitElem,
     DiscardElem,
@@ -61,7 +61,7 @@ const CALLS: [Call; 17] = [
     Call::Short("ensure_space", ShortCall::EnsureSpace),
     Call::Short("push_str", ShortCall::PushStr),
     Call::Short("push_chunked", ShortCall::PushChunked),
-    Call::Short("push_link", ShortCall::PushLink),
+    Call::PushLink,
     Call::Short("push_transparent", ShortCall::PushTransparent),
     Call::Short("push_quotes", ShortCall::PushQuotes),
     Call::Short("pop_quotes", ShortCall::PopQuotes),
@@ -88,8 +88,13 @@ fn filled<'a>(rt: &impl Eprint, asked: Asked<'a>) -> Result<Writing<'a>, AllocEr
 {
     named(rt, "prepare");
     let mut context = begin(asked.alloc, asked.style)?;
-    context.push_str(FULL)?;
-    Ok(context)
+    match context.push_str(FULL) {
+        Ok(()) => Ok(context),
+        Err(error) => {
+            drop(context);
+            Err(error)
+        }
+    }
 }
 
 /// What a call gave; where it was refused, the heights have to be those of before.
@@ -102,6 +107,19 @@ fn given<R>(
         Ok(value) => Ok(value),
         Err(_) if writing.heights() == before => Err(Ended::Refused),
         Err(_) => Err(Ended::OtherHeights),
+    }
+}
+
+/// What a call gave that leaves the heights as they were in any case.
+fn given_level(
+    before: Heights,
+    writing: &WritingContext<'_>,
+    outcome: Result<(), AllocError>,
+) -> Result<(), Ended> {
+    match outcome {
+        _ if writing.heights() != before => Err(Ended::OtherHeights),
+        Ok(()) => Ok(()),
+        Err(_) => Err(Ended::Refused),
     }
 }
 
@@ -122,7 +140,6 @@ fn make_short_call(
         ShortCall::EnsureSpace => context.ensure_space(),
         ShortCall::PushStr => context.push_str("A"),
         ShortCall::PushChunked => context.push_chunked(asked.formula),
-        ShortCall::PushLink => context.push_link(asked.formula, String::new(asked.alloc)),
         ShortCall::PushTransparent => context.push_transparent(2),
         ShortCall::PushQuotes => context.push_quotes(),
         ShortCall::PopQuotes => context.pop_quotes(),
@@ -154,12 +171,19 @@ fn short(
     let before = context.writing.heights();
     named(rt, name);
     let outcome = make_short_call(asked, context, call);
-    given(before, &context.writing, outcome)?;
-    if rises(call) || context.writing.heights() == before {
-        Ok(())
+    if rises(call) {
+        given(before, &context.writing, outcome)
     } else {
-        Err(Ended::OtherHeights)
+        given_level(before, &context.writing, outcome)
     }
+}
+
+fn push_link(rt: &impl Eprint, asked: Asked<'_>, context: &mut Writing<'_>) -> Result<(), Ended> {
+    let url = String::from_str(asked.alloc, "u")?;
+    let before = context.writing.heights();
+    named(rt, "push_link");
+    let outcome = context.push_link(asked.formula, url);
+    given_level(before, &context.writing, outcome)
 }
 
 fn pop_format(rt: &impl Eprint, context: &mut Writing<'_>) -> Result<(), Ended> {
@@ -232,6 +256,7 @@ fn make<'a>(
 ) -> Result<(), Ended> {
     match call {
         Call::Short(name, call) => short(rt, asked, context, (name, call)),
+        Call::PushLink => push_link(rt, asked, context),
         Call::PopFormat => pop_format(rt, context),
         Call::CommitElem => end_elem(rt, context, true),
         Call::DiscardElem => end_elem(rt, context, false),
@@ -252,7 +277,7 @@ fn make_alone(rt: &impl Eprint, asked: Asked<'_>, call: Call) -> Result<(), Ende
 fn flush(rt: &impl Eprint, asked: Asked<'_>) -> Result<ElemChildren, AllocError> {
     let context = filled(rt, asked)?;
     named(rt, "flush");
-    context.writing.flush()
+    flushed(context)
 }
 
 fn all(rt: &impl Eprint, asked: Asked<'_>) -> Result<(), Ended> {
@@ -270,13 +295,15 @@ pub fn keep_heights(
     style: &IndependentStyle,
 ) -> Result<(), Ended> {
     named(rt, "prepare");
-    let affixes = affixes(rt.alloc(), "(", ")")?;
     let formula = formula(rt.alloc(), "x")?;
+    let affixes = affixes(rt.alloc(), "(", ")")?;
     let asked = Asked {
         alloc: rt.alloc(),
         style,
         affixes: &affixes,
         formula: &formula,
     };
-    all(rt, asked)
+    let outcome = all(rt, asked);
+    drop(affixes);
+    outcome
 }

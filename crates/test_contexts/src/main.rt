@@ -6,6 +6,9 @@
 //! and the document follows. Before each call its name is written to standard error, and at the end
 //! a line that says what was seen; the exit status tells that too. What the calls write goes to
 //! standard output.
+//!
+//! What owns much is dropped by name and at one place: that is a call, where the end of a scope has
+//! the proof go through all its parts.
 #![tactic(auto)]
 
 mod cites;
@@ -63,7 +66,10 @@ fn called_in(rt: &(impl Print + Eprint + AllocGlobal), text: &str) -> Result<(),
         return Err(Ended::Document);
     };
     let _ = eprintln!(rt; "prepare");
-    called_of(rt, asked, &value_of(rt.alloc(), document)?)
+    let value = value_of(rt.alloc(), document)?;
+    let outcome = called_of(rt, asked, &value);
+    drop(value);
+    outcome
 }
 
 /// Reads what is asked, and makes the calls.

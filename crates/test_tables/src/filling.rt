@@ -35,12 +35,13 @@ impl<'t> CiteSource for WrittenBefore<'t> {
 }
 
 fn copy_of(cite: &Cite) -> Result<Cite, AllocError> {
+    let children = cite.children.clone()?;
     let first_name = match &cite.first_name {
         Some(names) => Some(names.clone()?),
         None => None,
     };
     Ok(Cite {
-        children: cite.children.clone()?,
+        children,
         checked_disambiguate: cite.checked_disambiguate,
         first_name,
         identifier_usage: cite.identifier_usage,
