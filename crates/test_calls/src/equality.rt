@@ -59,31 +59,28 @@ fn plain() -> Speculative {
     speculative(None, 0, IbidState::Different)
 }
 
-/// A cite that is disambiguated by the test of `disambiguate`.
-fn chosen() -> Speculative {
+/// The same but for what disambiguates the cite and which identifiers it has written.
+fn written(
+    disambiguation: DisambiguateState,
+    means: Means,
+    identifier_usage: IdentifierUsage,
+) -> Speculative {
     SpeculativeCiteProperties {
-        disambiguation: DisambiguateState::Choose,
-        ..plain()
+        locator: None,
+        citation_number: 0,
+        ibid: IbidState::Different,
+        disambiguation,
+        means,
+        identifier_usage,
     }
 }
 
-/// A cite that is disambiguated by a suffix, where means are taken together.
-fn told() -> Speculative {
-    SpeculativeCiteProperties {
-        means: Means {
-            names: None,
-            choose: false,
-            suffix: Some(0),
-        },
-        ..plain()
-    }
-}
-
-/// A cite that has written its number.
-fn numbered() -> Speculative {
-    SpeculativeCiteProperties {
-        identifier_usage: IdentifierUsage::OnlyCitationNumber,
-        ..plain()
+/// A suffix, where means are taken together.
+fn suffix() -> Means {
+    Means {
+        names: None,
+        choose: false,
+        suffix: Some(0),
     }
 }
 
@@ -107,9 +104,17 @@ fn changed(field: Field) -> Speculative {
         }
         Field::CitationNumber => speculative(None, 1, IbidState::Different),
         Field::Ibid => speculative(None, 0, IbidState::Ibid),
-        Field::Disambiguation => chosen(),
-        Field::Means => told(),
-        Field::IdentifierUsage => numbered(),
+        Field::Disambiguation => written(
+            DisambiguateState::Choose,
+            Means::none(),
+            IdentifierUsage::None,
+        ),
+        Field::Means => written(DisambiguateState::None, suffix(), IdentifierUsage::None),
+        Field::IdentifierUsage => written(
+            DisambiguateState::None,
+            Means::none(),
+            IdentifierUsage::OnlyCitationNumber,
+        ),
     }
 }
 

@@ -247,7 +247,11 @@ fn told(rt: &impl Eprint) -> bool {
         suffix: Some(2),
     };
     let by_state = are_none && chosen && suffix == Some(1);
-    by_state && is_chosen(&state, &means) && suffix_told(&state, &means) == Some(2)
+    let by_means = is_chosen(&state, &means) && suffix_told(&state, &means) == Some(2);
+    drop(means);
+    drop(state);
+    drop(none);
+    by_state && by_means
 }
 
 // ---- locales

@@ -54,16 +54,16 @@ pub(crate) fn formula(alloc: Global, text: &str) -> Result<ChunkedString, AllocE
 
 /// A text, a formula, a link and a mark.
 fn push_children(
+    alloc: Global,
     context: &mut Writing<'_>,
     formula: &ChunkedString,
-    url: String,
 ) -> Result<(), AllocError>
     requires formats { length (state context.old.writing).formats ≡ 1 }
     ensures formats { OnOk result (length (state context.new.writing).formats ≡ 1) }
 {
     context.push_str("A")?;
     context.push_chunked(formula)?;
-    context.push_link(formula, url)?;
+    context.push_link(formula, String::from_str(alloc, "u")?)?;
     context.push_transparent(2)
 }
 
@@ -166,9 +166,7 @@ fn push_part(alloc: Global, context: &mut Writing<'_>, part: Part<'_>) -> Result
     ensures formats { OnOk result (length (state context.new.writing).formats ≡ 1) }
 {
     match part {
-        Part::Children(formula) => {
-            push_children(context, formula, String::from_str(alloc, "u")?)
-        }
+        Part::Children(formula) => push_children(alloc, context, formula),
         Part::InAffixes(affixes, text) => push_in_affixes(context, affixes, text),
         Part::Quoted => push_quoted(context),
         Part::Delimited => push_delimited(context),
@@ -283,16 +281,26 @@ fn print_written(
     Ok(())
 }
 
+/// Prints the text behind this prefix and before a bracket.
+fn print_in_affixes(
+    rt: &(impl Print + AllocGlobal),
+    style: &IndependentStyle,
+    prefix: &str,
+    text: &str,
+) -> Result<(), AllocError> {
+    let affixes = affixes(rt.alloc(), prefix, ")")?;
+    let outcome = print_written(rt, style, "affixes", Part::InAffixes(&affixes, text));
+    drop(affixes);
+    outcome
+}
+
 /// Prints what is written in affixes.
 fn print_affixes(
     rt: &(impl Print + AllocGlobal),
     style: &IndependentStyle,
 ) -> Result<(), AllocError> {
     for (prefix, text) in [("(", "A"), ("(", ""), (". ", ".")] {
-        let affixes = affixes(rt.alloc(), prefix, ")")?;
-        let outcome = print_written(rt, style, "affixes", Part::InAffixes(&affixes, text));
-        drop(affixes);
-        outcome?;
+        print_in_affixes(rt, style, prefix, text)?;
     }
     Ok(())
 }
