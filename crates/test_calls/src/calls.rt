@@ -7,6 +7,7 @@ use crate::passes::by_passes;
 use crate::streams::{Failing, Slow};
 use cite_document::error::RunError;
 use cite_document::faults::print_fault_bytes;
+use cite_document::filling::bibliography_request;
 use cite_document::input::read_input;
 use cite_document::running::run;
 use csl_base::entry::PlainEntry;
@@ -15,14 +16,14 @@ use csl_driver::account::Account;
 use csl_driver::driver::BibliographyDriver;
 use csl_driver::error::{CitationRefused, DriverError};
 use csl_driver::rendered::{Rendered, RenderedBibliography};
-use csl_driver::request::{BibliographyRequest, CitationRequest, Order};
+use csl_driver::request::{BibliographyRequest, CitationRequest};
 use csl_driver::standalone::standalone_citation;
 use csl_driver::terms::TermTables;
 use csl_round_laws::mode::RoundMode;
 use json_document::document::{Job, job_in, top_of, utf8_text, value_of};
 use json_document::entries::entries_of;
 use json_document::finders::found_styles;
-use json_document::requests::{AskedCite, AskedRequest, copied_code, driver_request};
+use json_document::requests::{AskedCite, AskedRequest, driver_request};
 use json_document::rounds::Rounds;
 use json_styles::locales::locales_at;
 use json_styles::styles::{NamedStyle, styles_of};
@@ -78,29 +79,19 @@ fn take<'e>(driver: &mut Driver<'e>, request: Request<'e>) -> Result<bool, RunEr
         Ok(()) => Ok(false),
         Err(refused) => {
             let CitationRefused { request } = refused;
-            match driver.citation(request) {
-                Ok(()) => Ok(true),
-                Err(_) => Err(RunError::OutOfMemory),
-            }
+            take_again(driver, request)
         }
     }
 }
 
-/// A request for the driver, of the style itself.
-fn unprepared_request<'e, 'f: 'e>(
-    alloc: Global,
-    request: &'e AskedRequest<'f>,
-    files: &'e TermTables<'f>,
-) -> Result<Request<'e>, AllocError> {
-    let made = driver_request(alloc, request, files)?;
-    let CitationRequest { items, locale, .. } = made;
-    Ok(CitationRequest::new(
-        items,
-        request.style.style,
-        locale,
-        files.locales(),
-        request.note_number,
-    ))
+fn take_again<'e>(driver: &mut Driver<'e>, request: Request<'e>) -> Result<bool, RunError> {
+    match driver.citation(request) {
+        Ok(()) => Ok(true),
+        Err(refused) => {
+            drop(refused);
+            Err(RunError::OutOfMemory)
+        }
+    }
 }
 
 /// A request for the driver: of the prepared style, if there is one, or of the style itself.
@@ -110,11 +101,8 @@ fn request_of<'e, 'f: 'e>(
     files: &'e TermTables<'f>,
     is_prepared: bool,
 ) -> Result<Request<'e>, AllocError> {
-    if is_prepared {
-        driver_request(alloc, request, files)
-    } else {
-        unprepared_request(alloc, request, files)
-    }
+    let made = driver_request(alloc, request, files)?;
+    Ok(if is_prepared { made } else { made.unprepared() })
 }
 
 /// Hands in all requests; tells whether one came back.
@@ -135,27 +123,16 @@ fn take_all<'e, 'f: 'e>(
     Ok(came_back)
 }
 
-/// What the driver is asked of the bibliography.
-fn bibliography_request<'o, 'e>(
+/// What the driver is asked of the bibliography: of the prepared style, if there is one, or of the
+/// style itself.
+fn wanted_of<'o, 'e>(
     alloc: Global,
     job: &'o Job<'e>,
     files: &'o TermTables<'e>,
     is_prepared: bool,
 ) -> Result<BibliographyRequest<'o, 'e, PlainEntry>, AllocError> {
-    let locale = copied_code(alloc, &job.wanted.locale)?;
-    let order = match &job.wanted.order {
-        Some(entries) => Some(Order(entries.as_slice())),
-        None => None,
-    };
-    match job.wanted.style.prepared() {
-        Some(prepared) if is_prepared => Ok(BibliographyRequest::of_prepared(
-            prepared, locale, files, order,
-        )),
-        _ => {
-            let style = job.wanted.style.style;
-            Ok(BibliographyRequest::ordered(style, locale, files.locales(), order))
-        }
-    }
+    let made = bibliography_request(alloc, job, files)?;
+    Ok(if is_prepared { made } else { made.unprepared() })
 }
 
 fn print_items(rt: &impl Print, bibliography: &RenderedBibliography) {
@@ -198,90 +175,96 @@ fn counted<'e>(
     }
 }
 
-/// Prints the answer.
+/// Prints whether a copy of the answer is equal to it.
+fn print_copy(rt: &(impl Print + Eprint), rendered: &Rendered) -> Result<(), AllocError> {
+    let _ = eprintln!(rt; "clone");
+    let copy = rendered.clone()?;
+    let is_equal = copy == *rendered;
+    drop(copy);
+    let _ = println!(rt; "copy: {}", word(is_equal));
+    Ok(())
+}
+
+/// Prints the answer, or whether a copy of it is equal to it.
+fn print_answer_or_copy(
+    rt: &(impl Print + Eprint),
+    rendered: &Rendered,
+    how: How,
+) -> Result<(), AllocError> {
+    match how {
+        How::Copies => print_copy(rt, rendered),
+        _ => {
+            print_answer(rt, rendered);
+            Ok(())
+        }
+    }
+}
+
+/// Answers by `finish`, and prints it.
 fn print_finished<'e>(
     rt: &(impl Print + Eprint),
     driver: Driver<'e>,
     request: BibliographyRequest<'_, 'e, PlainEntry>,
+    how: How,
 ) -> Result<(), DriverError> {
     let _ = eprintln!(rt; "finish");
-    print_answer(rt, &driver.finish(request)?);
-    Ok(())
+    let rendered = driver.finish(request)?;
+    let printed = print_answer_or_copy(rt, &rendered, how);
+    drop(rendered);
+    Ok(printed?)
 }
 
-/// Prints the answer that has an account.
+/// Prints the answer that has an account, or the account.
 fn print_of_rounds<'e>(
     rt: &(impl Print + Eprint),
     driver: Driver<'e>,
     request: BibliographyRequest<'_, 'e, PlainEntry>,
     rounds: RoundMode,
+    how: How,
 ) -> Result<(), DriverError> {
-    let (rendered, _account) = counted(rt, driver, request, rounds)?;
-    print_answer(rt, &rendered);
+    let (rendered, account) = counted(rt, driver, request, rounds)?;
+    match how {
+        How::Account => print_account(rt, &account),
+        _ => print_answer(rt, &rendered),
+    }
+    drop(account);
+    drop(rendered);
     Ok(())
 }
 
-/// Prints the answer in which works are told apart as CSL 1.0.2 has it.
+/// Prints the answer in which works are told apart as CSL 1.0.2 has it, or its account.
 fn print_of_csl<'e>(
     rt: &(impl Print + Eprint),
     driver: Driver<'e>,
     request: BibliographyRequest<'_, 'e, PlainEntry>,
+    how: How,
 ) -> Result<(), DriverError> {
     let _ = eprintln!(rt; "finish_csl");
-    let (rendered, _account) = driver.finish_csl(request)?;
-    print_answer(rt, &rendered);
+    let (rendered, account) = driver.finish_csl(request)?;
+    match how {
+        How::Account => print_csl_account(rt, &account),
+        _ => print_answer(rt, &rendered),
+    }
+    drop(account);
+    drop(rendered);
     Ok(())
 }
 
-/// Prints whether a copy of the answer is equal to it.
-fn print_copied<'e>(
-    rt: &(impl Print + Eprint),
-    driver: Driver<'e>,
-    request: BibliographyRequest<'_, 'e, PlainEntry>,
-) -> Result<(), DriverError> {
-    let _ = eprintln!(rt; "finish");
-    let rendered = driver.finish(request)?;
-    let _ = eprintln!(rt; "clone");
-    let copy = rendered.clone()?;
-    let _ = println!(rt; "copy: {}", word(copy == rendered));
-    Ok(())
-}
-
-/// Prints what the answer cost.
+/// Prints what the answer cost, or why there is none.
 fn print_cost<'e>(
     rt: &(impl Print + Eprint),
     driver: Driver<'e>,
     request: BibliographyRequest<'_, 'e, PlainEntry>,
     rounds: Rounds,
 ) -> Result<(), DriverError> {
-    match rounds {
-        Rounds::Mode(mode) => {
-            let (_rendered, account) = counted(rt, driver, request, mode)?;
-            print_account(rt, &account);
-        }
-        Rounds::Csl => {
-            let _ = eprintln!(rt; "finish_csl");
-            let (_rendered, account) = driver.finish_csl(request)?;
-            print_csl_account(rt, &account);
-        }
+    let printed = match rounds {
+        Rounds::Mode(mode) => print_of_rounds(rt, driver, request, mode, How::Account),
+        Rounds::Csl => print_of_csl(rt, driver, request, How::Account),
+    };
+    if let Err(error) = &printed {
+        print_refusal(rt, error);
     }
-    Ok(())
-}
-
-/// Prints what the answer cost, or why there is none.
-fn print_counted<'e>(
-    rt: &(impl Print + Eprint),
-    driver: Driver<'e>,
-    request: BibliographyRequest<'_, 'e, PlainEntry>,
-    rounds: Rounds,
-) -> Result<(), DriverError> {
-    match print_cost(rt, driver, request, rounds) {
-        Ok(()) => Ok(()),
-        Err(error) => {
-            print_refusal(rt, &error);
-            Err(error)
-        }
-    }
+    printed
 }
 
 /// Prints what is asked for.
@@ -293,12 +276,11 @@ fn print_asked<'e>(
     how: How,
 ) -> Result<(), DriverError> {
     match how {
-        How::Account => print_counted(rt, driver, request, rounds),
-        How::Copies => print_copied(rt, driver, request),
-        How::FinishCounted => print_of_rounds(rt, driver, request, RoundMode::Three),
-        How::FinishFull => print_of_rounds(rt, driver, request, RoundMode::Full),
-        How::FinishCsl => print_of_csl(rt, driver, request),
-        _ => print_finished(rt, driver, request),
+        How::Account => print_cost(rt, driver, request, rounds),
+        How::FinishCounted => print_of_rounds(rt, driver, request, RoundMode::Three, how),
+        How::FinishFull => print_of_rounds(rt, driver, request, RoundMode::Full, how),
+        How::FinishCsl => print_of_csl(rt, driver, request, how),
+        _ => print_finished(rt, driver, request, how),
     }
 }
 
@@ -314,7 +296,7 @@ fn answer_all<'e, 'f: 'e>(
     let is_prepared = !matches!(how, How::FinishUnprepared);
     let came_back = take_all(rt, &mut driver, job, files, is_prepared)?;
     let _ = eprintln!(rt; "prepare");
-    let request = bibliography_request(alloc, job, files, is_prepared)?;
+    let request = wanted_of(alloc, job, files, is_prepared)?;
     print_asked(rt, driver, request, job.rounds, how)?;
     if came_back {
         Ok(Seen::AnswerAtLast)
@@ -361,39 +343,35 @@ fn first_cite<'r, 'f>(job: &'r Job<'f>) -> Option<&'r AskedCite<'f>> {
 }
 
 /// Makes calls that take no memory.
-fn call_free<'e, 'f: 'e>(
+fn call_free(
     rt: &(impl Print + Eprint + AllocGlobal),
-    job: &'e Job<'f>,
-    files: &'e TermTables<'f>,
+    job: &Job<'_>,
+    requests: &[Request<'_>],
 ) -> Result<Seen, RunError> {
-    let requests = requests_of(rt.alloc(), job, files)?;
     let Some(cite) = first_cite(job) else {
         return Err(RunError::Document);
     };
     let style = job.wanted.style.style;
-    if calls_without_memory(rt, &requests, style, cite.entry, job.locales)? {
+    if calls_without_memory(rt, requests, style, cite.entry, job.locales)? {
         Ok(Seen::Answer)
     } else {
         Ok(Seen::Amiss("a call that takes no memory gave what it may not"))
     }
 }
 
-/// Compares cites with their copies, and requests with the first one.
-fn compare_requests(rt: &impl Print, requests: &[Request<'_>]) -> Result<(), AllocError> {
-    print_copies(rt, requests)?;
-    print_requests(rt, requests);
-    Ok(())
-}
-
-/// Compares the requests with the first one, and that for the bibliography with one for its style
-/// alone.
+/// Compares cites with their copies, the requests with the first one, and that for the bibliography
+/// with one for its style alone.
 fn compare<'e, 'f: 'e>(
     rt: &(impl Print + AllocGlobal),
     job: &'e Job<'f>,
     files: &'e TermTables<'f>,
+    requests: &[Request<'e>],
 ) -> Result<Seen, RunError> {
-    compare_requests(rt, &requests_of(rt.alloc(), job, files)?)?;
-    print_wanted(rt, &bibliography_request(rt.alloc(), job, files, true)?);
+    print_copies(rt, requests)?;
+    print_requests(rt, requests);
+    let wanted = bibliography_request(rt.alloc(), job, files)?;
+    print_wanted(rt, &wanted);
+    drop(wanted);
     if properties_differ() {
         Ok(Seen::Answer)
     } else {
@@ -401,14 +379,19 @@ fn compare<'e, 'f: 'e>(
     }
 }
 
-/// Calls the passes by themselves.
-fn call_passes<'e, 'f: 'e>(
+/// Makes calls on the requests, and answers none.
+fn call_with_requests<'e, 'f: 'e>(
     rt: &(impl Print + Eprint + AllocGlobal),
     job: &'e Job<'f>,
     files: &'e TermTables<'f>,
+    how: How,
 ) -> Result<Seen, RunError> {
     let requests = requests_of(rt.alloc(), job, files)?;
-    by_passes(rt, &requests)
+    match how {
+        How::Passes => by_passes(rt, &requests),
+        How::Equality => compare(rt, job, files, &requests),
+        _ => call_free(rt, job, &requests),
+    }
 }
 
 /// Does it with what the document asks for, and the tables of its locales.
@@ -420,11 +403,19 @@ fn answered_over<'e, 'f: 'e>(
 ) -> Result<Seen, RunError> {
     match how {
         How::Alone => answer_alone(rt, job, files),
-        How::Passes => call_passes(rt, job, files),
-        How::Equality => compare(rt, job, files),
-        How::Free => call_free(rt, job, files),
+        How::Passes | How::Equality | How::Free => call_with_requests(rt, job, files, how),
         _ => answer_all(rt, job, files, how),
     }
+}
+
+/// Does it with what the document asks for.
+fn answered_job(
+    rt: &(impl Print + Eprint + AllocGlobal),
+    job: &Job<'_>,
+    how: How,
+) -> Result<Seen, RunError> {
+    let files = TermTables::new(rt.alloc(), job.locales)?;
+    answered_over(rt, job, &files, how)
 }
 
 /// Does it with what the value asks for, of these styles, entries and locales.
@@ -438,16 +429,18 @@ fn answered_of(
 ) -> Result<Seen, RunError> {
     let found = found_styles(rt.alloc(), styles, object)?;
     let job = job_in(rt.alloc(), &found, entries, locales, object)?;
-    let files = TermTables::new(rt.alloc(), job.locales)?;
-    answered_over(rt, &job, &files, how)
+    let seen = answered_job(rt, &job, how);
+    drop(job);
+    seen
 }
 
 /// Does it with the value of a document.
 fn answered_in(
     rt: &(impl Print + Eprint + AllocGlobal),
-    object: &Value,
+    value: &Value,
     how: How,
 ) -> Result<Seen, RunError> {
+    let object = top_of(rt.alloc(), value)?;
     let styles = styles_of(rt.alloc(), object)?;
     let locales = locales_at(rt.alloc(), object, "locales")?;
     let entries = entries_of(rt.alloc(), object)?;
@@ -462,25 +455,44 @@ pub fn answered(
 ) -> Result<Seen, RunError> {
     let _ = eprintln!(rt; "prepare");
     let value = value_of(rt.alloc(), document)?;
-    answered_in(rt, top_of(rt.alloc(), &value)?, how)
+    let seen = answered_in(rt, &value, how);
+    drop(value);
+    seen
+}
+
+/// Prints what was written or read.
+fn print_bytes(rt: &(impl Print + AllocGlobal), bytes: &[u8]) -> Result<Seen, RunError> {
+    let _ = print!(rt; "{}", utf8_text(rt.alloc(), bytes)?);
+    Ok(Seen::Answer)
 }
 
 /// Answers the document by `run`, into memory that is there.
+fn written_into(
+    rt: &(impl Print + Eprint + AllocGlobal),
+    document: &str,
+    out: &mut Vec<u8>,
+) -> Result<Seen, RunError> {
+    let _ = eprintln!(rt; "run");
+    match run(rt.alloc(), document.as_bytes(), out) {
+        Ok(()) => print_bytes(rt, out),
+        Err(error) => {
+            if out.is_empty() {
+                Err(error)
+            } else {
+                Ok(Seen::Amiss("something was written"))
+            }
+        }
+    }
+}
+
+/// Answers it by `run`, and prints what was written.
 pub fn written_out(
     rt: &(impl Print + Eprint + AllocGlobal),
     document: &str,
 ) -> Result<Seen, RunError> {
-    let alloc = rt.alloc();
     let _ = eprintln!(rt; "prepare");
-    let mut out: Vec<u8> = Vec::with_capacity(alloc, ROOM)?;
-    let _ = eprintln!(rt; "run");
-    let result = run(alloc, document.as_bytes(), &mut out);
-    if result.is_err() && !out.is_empty() {
-        return Ok(Seen::Amiss("something was written"));
-    }
-    result?;
-    let _ = print!(rt; "{}", utf8_text(alloc, &out)?);
-    Ok(Seen::Answer)
+    let mut out: Vec<u8> = Vec::with_capacity(rt.alloc(), ROOM)?;
+    written_into(rt, document, &mut out)
 }
 
 /// Answers the document by `run`, over a writer that fails behind so many bytes, and prints what
@@ -496,9 +508,9 @@ pub fn written_until(
     };
     let result = run(rt.alloc(), document.as_bytes(), &mut out);
     let Failing { left: _, got } = out;
-    let _ = print!(rt; "{}", utf8_text(rt.alloc(), &got)?);
+    let seen = print_bytes(rt, &got)?;
     result?;
-    Ok(Seen::Answer)
+    Ok(seen)
 }
 
 /// Reads the document a byte at each read, to its end or to a failure there, and prints what was
@@ -513,8 +525,7 @@ pub fn read_slowly(
         fails,
     };
     let bytes = read_input(rt.alloc(), &mut reader)?;
-    let _ = print!(rt; "{}", utf8_text(rt.alloc(), &bytes)?);
-    Ok(Seen::Answer)
+    print_bytes(rt, &bytes)
 }
 
 /// Prints the fault of the document, or nothing where it has none.

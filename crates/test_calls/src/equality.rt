@@ -14,6 +14,11 @@ type Request<'e> = CitationRequest<'e, PlainEntry, Infallible>;
 
 type Speculative = SpeculativeCiteProperties<'static, Infallible>;
 
+/// Whether two things differ.
+pub(crate) fn differ<T: PartialEq + Drop>(one: T, other: T) -> bool {
+    one != other
+}
+
 /// Whether what holds of a cite for certain differs by each of its fields.
 fn certain_differ() -> bool {
     let base = CertainCiteProperties::default();
@@ -49,56 +54,101 @@ fn speculative(
     SpeculativeCiteProperties::speculate(locator, citation_number, ibid)
 }
 
-/// A cite that is disambiguated by the test of `disambiguate`.
-fn chosen() -> Speculative {
+/// A cite of no locator at its first position.
+fn plain() -> Speculative {
+    speculative(None, 0, IbidState::Different)
+}
+
+/// The same but for what disambiguates the cite and which identifiers it has written.
+fn written(
+    disambiguation: DisambiguateState,
+    means: Means,
+    identifier_usage: IdentifierUsage,
+) -> Speculative {
     SpeculativeCiteProperties {
-        disambiguation: DisambiguateState::Choose,
-        ..speculative(None, 0, IbidState::Different)
+        locator: None,
+        citation_number: 0,
+        ibid: IbidState::Different,
+        disambiguation,
+        means,
+        identifier_usage,
     }
 }
 
-/// A cite that is disambiguated by a suffix, where means are taken together.
-fn told() -> Speculative {
-    SpeculativeCiteProperties {
-        means: Means {
-            names: None,
-            choose: false,
-            suffix: Some(0),
-        },
-        ..speculative(None, 0, IbidState::Different)
+/// A suffix, where means are taken together.
+fn suffix() -> Means {
+    Means {
+        names: None,
+        choose: false,
+        suffix: Some(0),
     }
 }
 
-/// A cite that has written its number.
-fn numbered() -> Speculative {
-    SpeculativeCiteProperties {
-        identifier_usage: IdentifierUsage::OnlyCitationNumber,
-        ..speculative(None, 0, IbidState::Different)
+/// What may change of a cite.
+#[derive(Clone, Copy)]
+enum Field {
+    Locator,
+    CitationNumber,
+    Ibid,
+    Disambiguation,
+    Means,
+    IdentifierUsage,
+}
+
+/// A cite that differs from the plain one by this field.
+fn changed(field: Field) -> Speculative {
+    match field {
+        Field::Locator => {
+            let page = SpecificLocator(Locator::Page, LocatorPayload::Str("7"));
+            speculative(Some(page), 0, IbidState::Different)
+        }
+        Field::CitationNumber => speculative(None, 1, IbidState::Different),
+        Field::Ibid => speculative(None, 0, IbidState::Ibid),
+        Field::Disambiguation => written(
+            DisambiguateState::Choose,
+            Means::none(),
+            IdentifierUsage::None,
+        ),
+        Field::Means => written(DisambiguateState::None, suffix(), IdentifierUsage::None),
+        Field::IdentifierUsage => written(
+            DisambiguateState::None,
+            Means::none(),
+            IdentifierUsage::OnlyCitationNumber,
+        ),
     }
+}
+
+/// Whether what may change of a cite differs by this field.
+fn field_differs(field: Field) -> bool {
+    differ(plain(), changed(field))
 }
 
 /// Whether what may change of a cite differs by each of its fields.
 fn speculative_differ() -> bool {
-    let base = speculative(None, 0, IbidState::Different);
-    let page = SpecificLocator(Locator::Page, LocatorPayload::Str("7"));
-    base == speculative(None, 0, IbidState::Different)
-        && base != speculative(Some(page), 0, IbidState::Different)
-        && base != speculative(None, 1, IbidState::Different)
-        && base != speculative(None, 0, IbidState::Ibid)
-        && base != chosen()
-        && base != told()
-        && base != numbered()
+    !differ(plain(), plain())
+        && field_differs(Field::Locator)
+        && field_differs(Field::CitationNumber)
+        && field_differs(Field::Ibid)
+        && field_differs(Field::Disambiguation)
+        && field_differs(Field::Means)
+        && field_differs(Field::IdentifierUsage)
+}
+
+/// Properties of a first cite, or of another, with this number.
+fn properties(is_first: bool, citation_number: usize) -> CiteProperties<'static, Infallible> {
+    let mut made = CiteProperties::for_sorting(None, citation_number);
+    made.certain.is_first = is_first;
+    made
+}
+
+/// Whether such properties differ from those of no first cite with the number 0.
+fn part_differs(is_first: bool, citation_number: usize) -> bool {
+    differ(properties(false, 0), properties(is_first, citation_number))
 }
 
 /// Whether properties differ by each of their two parts.
 fn parts_differ() -> bool {
-    let base: CiteProperties<'_, Infallible> = CiteProperties::for_sorting(None, 0);
-    let mut other: CiteProperties<'_, Infallible> = CiteProperties::for_sorting(None, 0);
-    if base != other {
-        return false;
-    }
-    other.certain.is_first = true;
-    base != other && base != CiteProperties::for_sorting(None, 1)
+    !part_differs(false, 0) && part_differs(true, 0) && part_differs(false, 1)
 }
 
 /// Whether the properties of cites differ by each of their fields.

@@ -5,6 +5,7 @@ ghost use Rattle.std.specs.Prelude.{◌≡◌, length};
 ghost use Rattle.csl_context.specs.WritingState.{state};
 
 use crate::calls::Request;
+use crate::equality::differ;
 use crate::passes::{Cite, Cites, Item, all_written};
 use cite_document::error::RunError;
 use csl_base::elem::{BufWriteFormat, Elem, ElemChild, ElemChildren, ElemMeta};
@@ -68,14 +69,18 @@ fn cites<'e>(rt: &impl Eprint, entry: &'e PlainEntry) -> bool {
     let dated = hidden.kind(CitePurpose::Year);
     named(rt, "with_last");
     let is_dated = dated.hidden && dated.purpose == Some(CitePurpose::Year);
-    is_dated && are_placed(&plain, &located, &dated)
+    let are_placed = are_placed(&plain, &located, &dated);
+    drop(dated);
+    drop(located);
+    drop(plain);
+    is_dated && are_placed
 }
 
 fn drivers(rt: &(impl Eprint + AllocGlobal)) {
     named(rt, "BibliographyDriver::new");
     let driver: BibliographyDriver<PlainEntry, Infallible> = BibliographyDriver::new(rt.alloc());
     named(rt, "with_citation_number_offset");
-    let _offset = driver.with_citation_number_offset(2);
+    drop(driver.with_citation_number_offset(2));
 }
 
 /// A request of one cite.
@@ -88,7 +93,13 @@ fn one_cite<'e>(
     let items: Vec<Item<'e>> = vec![in rt.alloc(); CitationItem::with_entry(entry)]?;
     named(rt, "CitationRequest::new");
     let one = CitationRequest::new(items, style, None, &[], Some(7));
-    Ok(one.items.len() == 1)
+    let is_one = one.items.len() == 1;
+    drop(one);
+    Ok(is_one)
+}
+
+fn unset<T: Drop>(field: &mut Option<T>) {
+    *field = None;
 }
 
 /// A request of no cite, whose public fields are written once more.
@@ -96,9 +107,11 @@ fn no_cite<'e>(rt: &(impl Eprint + AllocGlobal), style: &'e IndependentStyle) ->
     let none: Vec<Item<'e>> = Vec::new(rt.alloc());
     named(rt, "from_items");
     let mut empty = CitationRequest::from_items(none, style, &[]);
-    empty.locale = None;
+    unset(&mut empty.locale);
     empty.locale_files = &[];
-    empty.items.is_empty()
+    let is_empty = empty.items.is_empty();
+    drop(empty);
+    is_empty
 }
 
 /// A request for the bibliography, whose public fields are too.
@@ -106,9 +119,11 @@ fn wanted(rt: &impl Eprint, style: &IndependentStyle) -> bool {
     named(rt, "BibliographyRequest::new");
     let mut wanted: BibliographyRequest<PlainEntry> = BibliographyRequest::new(style, None, &[]);
     wanted.style = style;
-    wanted.locale = None;
-    wanted.order = None;
-    wanted.locale_files.is_empty()
+    unset(&mut wanted.locale);
+    unset(&mut wanted.order);
+    let is_empty = wanted.locale_files.is_empty();
+    drop(wanted);
+    is_empty
 }
 
 /// Whether all but the ends are hidden.
@@ -171,7 +186,10 @@ fn properties(rt: &impl Eprint) -> bool {
     named(rt, "for_bibliography");
     let listed = cited.for_bibliography();
     let is_listed = listed.locator.is_none() && listed.ibid == IbidState::Ibid;
-    is_listed && listed.citation_number == 4 && sorted.speculative.citation_number == 3
+    let are_numbered = listed.citation_number == 4 && sorted.speculative.citation_number == 3;
+    drop(listed);
+    drop(sorted);
+    is_listed && are_numbered
 }
 
 /// Whether the one form is counted, then short, then as it is written there.
@@ -189,6 +207,7 @@ fn forms(rt: &(impl Eprint + AllocGlobal)) -> Result<bool, AllocError> {
         *form = DisambiguatedNameForm::LongFull;
     }
     let is_long = names.forms.as_slice().first() == Some(&DisambiguatedNameForm::LongFull);
+    drop(names);
     Ok(is_short && is_long)
 }
 
@@ -206,7 +225,9 @@ fn states(rt: &impl Eprint) -> bool {
     let other = suffix.may_disambiguate_with_year_suffix();
     named(rt, "max");
     let greatest = DisambiguateState::Choose.max(suffix);
-    mixed && !names && !choose && !other && greatest == DisambiguateState::YearSuffix(1)
+    let is_suffix = greatest == DisambiguateState::YearSuffix(1);
+    drop(greatest);
+    mixed && !names && !choose && !other && is_suffix
 }
 
 /// Whether a test of `disambiguate` and a suffix are told by a state, by means, and by neither.
@@ -226,7 +247,11 @@ fn told(rt: &impl Eprint) -> bool {
         suffix: Some(2),
     };
     let by_state = are_none && chosen && suffix == Some(1);
-    by_state && is_chosen(&state, &means) && suffix_told(&state, &means) == Some(2)
+    let by_means = is_chosen(&state, &means) && suffix_told(&state, &means) == Some(2);
+    drop(means);
+    drop(state);
+    drop(none);
+    by_state && by_means
 }
 
 // ---- locales
@@ -249,7 +274,9 @@ fn terms<'a>(
     let properties: CiteProperties<'a, Infallible> = CiteProperties::for_sorting(None, 0);
     let cite = context.ctx(rt.alloc(), entry, properties, options)?;
     named(rt, "term");
-    Ok(cite.term(Term::Other(OtherTerm::EtAl), TermForm::Long, false) == Some("and others"))
+    let found = cite.term(Term::Other(OtherTerm::EtAl), TermForm::Long, false);
+    drop(cite);
+    Ok(found == Some("and others"))
 }
 
 /// A style's context in these files, which have one language and its `et-al`.
@@ -262,7 +289,7 @@ fn locales<'a>(
     named(rt, "StyleContext::new");
     let context = StyleContext::new(style, None, files);
     named(rt, "lookup_locale");
-    let found = context.lookup_locale(|locale| language(locale)) == Some("en-US");
+    let found = context.lookup_locale(language) == Some("en-US");
     named(rt, "locale");
     let code = context.locale() == "en-US";
     let term = terms(rt, context, entry, &style.settings.options)?;
@@ -315,7 +342,9 @@ fn contexts<'a>(
         properties,
         options,
     )?;
-    taken_off(rt, &mut context, options)
+    let is_taken_off = taken_off(rt, &mut context, options);
+    drop(context);
+    is_taken_off
 }
 
 // ---- trees
@@ -324,18 +353,25 @@ fn text_child(alloc: Global, text: &str) -> Result<ElemChild, AllocError> {
     Ok(ElemChild::Text(Formatting::default().add_text(String::from_str(alloc, text)?)))
 }
 
-fn elem(alloc: Global, text: &str, meta: ElemMeta) -> Result<Elem, AllocError> {
-    Ok(Elem {
-        children: ElemChildren(vec![in alloc; text_child(alloc, text)?]?),
+/// This text alone.
+fn text_tree(alloc: Global, text: &str) -> Result<ElemChildren, AllocError> {
+    Ok(ElemChildren(vec![in alloc; text_child(alloc, text)?]?))
+}
+
+fn elem(children: ElemChildren, meta: ElemMeta) -> Elem {
+    Elem {
+        children,
         display: None,
         meta: Some(meta),
-    })
+    }
 }
 
 /// A names element that writes `A`, and behind it the date 1999.
 fn tree(alloc: Global) -> Result<ElemChildren, AllocError> {
-    let names = elem(alloc, "A", ElemMeta::Names(Seq::new(Vec::new(alloc))))?;
-    let date = elem(alloc, "1999", ElemMeta::Date)?;
+    let written = text_tree(alloc, "A")?;
+    let year = text_tree(alloc, "1999")?;
+    let names = elem(written, ElemMeta::Names(Seq::new(Vec::new(alloc))));
+    let date = elem(year, ElemMeta::Date);
     Ok(ElemChildren(vec![in alloc; ElemChild::Elem(names), ElemChild::Elem(date)]?))
 }
 
@@ -403,25 +439,32 @@ fn hash_of(tree: &ElemChildren) -> u64 {
     hasher.finish()
 }
 
-/// Whether two trees that were made alike are equal, and hashed alike.
+/// Whether there is something.
+fn is_there<T: Drop>(found: Option<T>) -> bool {
+    found.is_some()
+}
+
+/// Whether two trees are equal, and hashed alike, until one of them loses what an element is.
+fn are_alike(rt: &impl Eprint, one: &ElemChildren, other: &mut ElemChildren) -> bool {
+    named(rt, "eq");
+    let is_equal = *one == *other;
+    named(rt, "hash");
+    let is_hashed_alike = hash_of(one) == hash_of(other);
+    named(rt, "remove_any_meta");
+    let is_removed = is_there(other.remove_any_meta());
+    is_equal && is_hashed_alike && is_removed && *one != *other
+}
+
+/// Whether two trees that were made alike are.
 fn compared(rt: &(impl Eprint + AllocGlobal)) -> Result<bool, AllocError> {
     named(rt, "prepare");
     let one = tree(rt.alloc())?;
     let mut other = tree(rt.alloc())?;
-    named(rt, "eq");
-    let is_equal = one == other;
-    named(rt, "hash");
-    let is_hashed_alike = hash_of(&one) == hash_of(&other);
-    named(rt, "remove_any_meta");
-    let removed = other.remove_any_meta();
-    Ok(is_equal && is_hashed_alike && removed.is_some() && one != other)
+    Ok(are_alike(rt, &one, &mut other))
 }
 
-/// A text and an element as children, and the text's formatting.
-fn children(rt: &(impl Eprint + AllocGlobal)) -> Result<bool, AllocError> {
-    named(rt, "prepare");
-    let text = String::from_str(rt.alloc(), "A")?;
-    let date = elem(rt.alloc(), "1999", ElemMeta::Date)?;
+/// The formatting of a text in italics.
+fn italics(rt: &impl Eprint) -> Formatting {
     let asked = StyleFormatting {
         font_style: Some(FontStyle::Italic),
         ..StyleFormatting::default()
@@ -429,14 +472,31 @@ fn children(rt: &(impl Eprint + AllocGlobal)) -> Result<bool, AllocError> {
     named(rt, "Formatting::default");
     let plain = Formatting::default();
     named(rt, "apply");
-    let italic = plain.apply(asked);
+    plain.apply(asked)
+}
+
+fn text_as_child(rt: &impl Eprint, text: String, formatting: Formatting) -> ElemChild {
     named(rt, "add_text");
-    let formatted = italic.add_text(text);
+    let formatted = formatting.add_text(text);
     named(rt, "ElemChild::from_text");
-    let child = ElemChild::from(formatted);
+    ElemChild::from(formatted)
+}
+
+fn elem_as_child(rt: &impl Eprint, elem: Elem) -> ElemChild {
     named(rt, "ElemChild::from_elem");
-    let other = ElemChild::from(date);
-    Ok(italic != plain && child.has_content() && other.has_content() && child != other)
+    ElemChild::from(elem)
+}
+
+/// A text and an element as children, and the text's formatting.
+fn children(rt: &(impl Eprint + AllocGlobal)) -> Result<bool, AllocError> {
+    named(rt, "prepare");
+    let text = String::from_str(rt.alloc(), "A")?;
+    let year = text_tree(rt.alloc(), "1999")?;
+    let italic = italics(rt);
+    let child = text_as_child(rt, text, italic);
+    let other = elem_as_child(rt, elem(year, ElemMeta::Date));
+    let have_content = child.has_content() && other.has_content();
+    Ok(differ(child, other) && have_content && italic != Formatting::default())
 }
 
 // ---- stacks

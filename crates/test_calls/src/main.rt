@@ -21,23 +21,33 @@ use cite_document::input::read_input;
 use json_document::document::utf8_text;
 use std::process::ExitCode;
 
+/// By which calls the first line says that the document is answered.
+fn how_of(asked: &str) -> Option<How> {
+    match asked {
+        "finish" => Some(How::Finish),
+        "finish unprepared" => Some(How::FinishUnprepared),
+        "finish_counted" => Some(How::FinishCounted),
+        "finish_full" => Some(How::FinishFull),
+        "finish_csl" => Some(How::FinishCsl),
+        "account" => Some(How::Account),
+        "standalone_citation" => Some(How::Alone),
+        "passes" => Some(How::Passes),
+        "equality" => Some(How::Equality),
+        "copies" => Some(How::Copies),
+        "free" => Some(How::Free),
+        _ => None,
+    }
+}
+
 /// Does what the first line says with the document behind it.
 fn answer_to(rt: &(impl Print + Eprint + AllocGlobal), text: &str) -> Result<Seen, RunError> {
     let Some((asked, document)) = text.split_once('\n') else {
         return Err(RunError::Document);
     };
+    if let Some(how) = how_of(asked) {
+        return answered(rt, document, how);
+    }
     match asked {
-        "finish" => answered(rt, document, How::Finish),
-        "finish unprepared" => answered(rt, document, How::FinishUnprepared),
-        "finish_counted" => answered(rt, document, How::FinishCounted),
-        "finish_full" => answered(rt, document, How::FinishFull),
-        "finish_csl" => answered(rt, document, How::FinishCsl),
-        "account" => answered(rt, document, How::Account),
-        "standalone_citation" => answered(rt, document, How::Alone),
-        "passes" => answered(rt, document, How::Passes),
-        "equality" => answered(rt, document, How::Equality),
-        "copies" => answered(rt, document, How::Copies),
-        "free" => answered(rt, document, How::Free),
         "run" => written_out(rt, document),
         "slow" => read_slowly(rt, document, false),
         "slow and failing" => read_slowly(rt, document, true),

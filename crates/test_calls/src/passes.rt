@@ -11,6 +11,7 @@ use cite_document::error::RunError;
 use csl_base::elem::ElemChildren;
 use csl_base::entry::{EntryLike, PlainEntry};
 use csl_base::style::{Bibliography, IndependentStyle};
+use csl_driver::cite;
 use csl_driver::counter::Renders;
 use csl_driver::item::CitationItem;
 use csl_driver::lookup::StyleContext;
@@ -42,6 +43,29 @@ fn ringless<'a>(alloc: Global, style: &'a IndependentStyle) -> Result<StyleConte
     }
 }
 
+/// What is written of a cite of the entry.
+fn written_alone(
+    alloc: Global,
+    context: &StyleContext<'_>,
+    entry: &PlainEntry,
+) -> Result<cite::Cite, AllocError>
+    requires no_ring { HasNoRing (context_source context.now).style.macros }
+{
+    let properties: CiteProperties<'_, Infallible> = CiteProperties::for_sorting(None, 0);
+    let cite = context.do_citation(
+        alloc,
+        entry,
+        &properties,
+        None,
+        None,
+        None,
+        None,
+        &mut Renders::new(),
+    );
+    drop(properties);
+    cite
+}
+
 /// A cite of the item's entry.
 fn written<'e>(
     alloc: Global,
@@ -50,21 +74,11 @@ fn written<'e>(
 ) -> Result<Cite<'e>, AllocError>
     requires no_ring { HasNoRing (context_source context.now).style.macros }
 {
-    let cite_props = CiteProperties::for_sorting(None, 0);
-    let cite = context.do_citation(
-        alloc,
-        item.entry,
-        &cite_props,
-        None,
-        None,
-        None,
-        None,
-        &mut Renders::new(),
-    )?;
+    let cite = written_alone(alloc, context, item.entry)?;
     Ok(SpeculativeItemRender {
         rendered: cite.children,
         entry: item.entry,
-        cite_props,
+        cite_props: CiteProperties::for_sorting(None, 0),
         checked_disambiguate: cite.checked_disambiguate,
         first_name: cite.first_name,
         delim_override: None,
@@ -236,10 +250,11 @@ fn item_of(
 ) -> Result<Option<(ElemChildren, String)>, AllocError>
     requires no_ring { HasNoRing (context_source context.now).style.macros }
 {
-    let key = String::from_str(alloc, item.entry.key())?;
     let properties: CiteProperties<'_, Infallible> = CiteProperties::for_sorting(None, 0);
-    match context.bibliography(alloc, item.entry, &properties, None, None, counter)? {
-        Some(tree) => Ok(Some((tree, key))),
+    let tree = context.bibliography(alloc, item.entry, &properties, None, None, counter);
+    drop(properties);
+    match tree? {
+        Some(tree) => Ok(Some((tree, String::from_str(alloc, item.entry.key())?))),
         None => Ok(None),
     }
 }

@@ -42,7 +42,7 @@ fn citation(
     let properties: CiteProperties<'_, Infallible> = CiteProperties::for_sorting(None, 0);
     let mut counter = Renders::new();
     named(rt, "StyleContext::citation");
-    context.citation(
+    let cite = context.citation(
         rt.alloc(),
         entry,
         &properties,
@@ -51,7 +51,9 @@ fn citation(
         None,
         None,
         &mut counter,
-    )
+    );
+    drop(properties);
+    cite
 }
 
 fn date(
@@ -62,7 +64,9 @@ fn date(
     let properties: CiteProperties<'_, Infallible> = CiteProperties::for_sorting(None, 0);
     let mut counter = Renders::new();
     named(rt, "date_replacement");
-    context.date_replacement(rt.alloc(), entry, &properties, None, None, &mut counter)
+    let date = context.date_replacement(rt.alloc(), entry, &properties, None, None, &mut counter);
+    drop(properties);
+    date
 }
 
 /// Prints the names of a tree from a copy of their element.
@@ -75,6 +79,7 @@ fn print_names(
         let copy = names.clone()?;
         let word = if copy == *names { "equal" } else { "other" };
         let _ = println!(rt; "names: {}, {word}", copy.children);
+        drop(copy);
     }
     Ok(())
 }

@@ -35,6 +35,14 @@ pub(crate) fn begin<'a>(
     StyleContext::new(style, None, &[]).ctx(alloc, options, properties, options)
 }
 
+/// The tree of what is written. A context is taken apart here alone: what is left of it has the proof
+/// go through all its parts.
+pub(crate) fn flushed(context: Writing<'_>) -> Result<ElemChildren, AllocError>
+    requires formats { length (state context.writing).formats ≡ 1 }
+{
+    context.writing.flush()
+}
+
 /// This formula.
 pub(crate) fn formula(alloc: Global, text: &str) -> Result<ChunkedString, AllocError> {
     let chunk = Chunk {
@@ -46,16 +54,16 @@ pub(crate) fn formula(alloc: Global, text: &str) -> Result<ChunkedString, AllocE
 
 /// A text, a formula, a link and a mark.
 fn push_children(
+    alloc: Global,
     context: &mut Writing<'_>,
     formula: &ChunkedString,
-    url: String,
 ) -> Result<(), AllocError>
     requires formats { length (state context.old.writing).formats ≡ 1 }
     ensures formats { OnOk result (length (state context.new.writing).formats ≡ 1) }
 {
     context.push_str("A")?;
     context.push_chunked(formula)?;
-    context.push_link(formula, url)?;
+    context.push_link(formula, String::from_str(alloc, "u")?)?;
     context.push_transparent(2)
 }
 
@@ -89,11 +97,24 @@ fn is_content(context: &mut Writing<'_>, affixes: &Affixes) -> Result<bool, Allo
     context.writing.has_content_since(&prefix)
 }
 
+/// The same in a context of its own, which is let go at once: to own less is cheaper to prove.
+fn is_content_alone(
+    alloc: Global,
+    style: &IndependentStyle,
+    affixes: &Affixes,
+) -> Result<bool, AllocError> {
+    let mut context = begin(alloc, style)?;
+    let outcome = is_content(&mut context, affixes);
+    drop(context);
+    outcome
+}
+
 /// Whether it is behind one space.
 fn is_content_behind_a_space(alloc: Global, style: &IndependentStyle) -> Result<bool, AllocError> {
     let affixes = affixes(alloc, " ", "")?;
-    let mut context = begin(alloc, style)?;
-    is_content(&mut context, &affixes)
+    let is_content = is_content_alone(alloc, style, &affixes);
+    drop(affixes);
+    is_content
 }
 
 /// A text in quotes, and a space behind it that is there already.
@@ -145,9 +166,7 @@ fn push_part(alloc: Global, context: &mut Writing<'_>, part: Part<'_>) -> Result
     ensures formats { OnOk result (length (state context.new.writing).formats ≡ 1) }
 {
     match part {
-        Part::Children(formula) => {
-            push_children(context, formula, String::from_str(alloc, "u")?)
-        }
+        Part::Children(formula) => push_children(alloc, context, formula),
         Part::InAffixes(affixes, text) => push_in_affixes(context, affixes, text),
         Part::Quoted => push_quoted(context),
         Part::Delimited => push_delimited(context),
@@ -161,8 +180,13 @@ fn written(
     part: Part<'_>,
 ) -> Result<ElemChildren, AllocError> {
     let mut context = begin(alloc, style)?;
-    push_part(alloc, &mut context, part)?;
-    context.writing.flush()
+    match push_part(alloc, &mut context, part) {
+        Ok(()) => flushed(context),
+        Err(error) => {
+            drop(context);
+            Err(error)
+        }
+    }
 }
 
 /// A formatting that is gone again, an element that is closed, and one that is dropped.
@@ -178,7 +202,9 @@ fn open_and_close(writing: &mut WritingContext<'_>) -> Result<(), AllocError> {
 /// Opens and closes them in a context of its own.
 fn open_and_close_alone(alloc: Global, style: &IndependentStyle) -> Result<(), AllocError> {
     let mut writing = WritingContext::new(alloc, &style.settings.options)?;
-    open_and_close(&mut writing)
+    let outcome = open_and_close(&mut writing);
+    drop(writing);
+    outcome
 }
 
 fn print_quote(rt: &impl Print, context: &Writing<'_>) {
@@ -217,7 +243,9 @@ fn print_term_alone(
     style: &IndependentStyle,
 ) -> Result<(), AllocError> {
     let mut context = begin(rt.alloc(), style)?;
-    print_term(rt, &mut context, &style.citation.name_options)
+    let outcome = print_term(rt, &mut context, &style.citation.name_options);
+    drop(context);
+    outcome
 }
 
 fn language<'l>(locale: &'l Locale) -> Option<&'l str> {
@@ -235,7 +263,7 @@ fn print_language(
 ) -> Result<(), AllocError> {
     let asked = LocaleCode(String::from_str(rt.alloc(), "de-AT")?);
     let context = StyleContext::new(style, Some(&asked), files);
-    if let Some(found) = context.lookup_locale(|locale| language(locale)) {
+    if let Some(found) = context.lookup_locale(language) {
         let _ = println!(rt; "language of {}: {found}", context.locale());
     }
     Ok(())
@@ -253,14 +281,26 @@ fn print_written(
     Ok(())
 }
 
+/// Prints the text behind this prefix and before a bracket.
+fn print_in_affixes(
+    rt: &(impl Print + AllocGlobal),
+    style: &IndependentStyle,
+    prefix: &str,
+    text: &str,
+) -> Result<(), AllocError> {
+    let affixes = affixes(rt.alloc(), prefix, ")")?;
+    let outcome = print_written(rt, style, "affixes", Part::InAffixes(&affixes, text));
+    drop(affixes);
+    outcome
+}
+
 /// Prints what is written in affixes.
 fn print_affixes(
     rt: &(impl Print + AllocGlobal),
     style: &IndependentStyle,
 ) -> Result<(), AllocError> {
     for (prefix, text) in [("(", "A"), ("(", ""), (". ", ".")] {
-        let affixes = affixes(rt.alloc(), prefix, ")")?;
-        print_written(rt, style, "affixes", Part::InAffixes(&affixes, text))?;
+        print_in_affixes(rt, style, prefix, text)?;
     }
     Ok(())
 }
@@ -284,7 +324,9 @@ fn print_children(
     style: &IndependentStyle,
 ) -> Result<(), AllocError> {
     let formula = formula(rt.alloc(), "x")?;
-    print_written(rt, style, "children", Part::Children(&formula))
+    let outcome = print_written(rt, style, "children", Part::Children(&formula));
+    drop(formula);
+    outcome
 }
 
 /// Makes the calls of a context in this style, and prints what they give.

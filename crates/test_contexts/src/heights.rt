@@ -1,16 +1,17 @@
 //! Calls of a writing context, each of which leaves the stacks as high as they were where it is
 //! refused. Each is made in a context of its own, whose text fills the room that is there from the
 //! start, and is named before it is made.
-ghost use Rattle.std.specs.Prelude.{◌≡◌, ◌+◌, IfOk, length};
+ghost use Rattle.std.specs.Prelude.{◌≡◌, IfOk, length};
 ghost use Rattle.csl_context.specs.WritingState.{state};
 
-use crate::contexts::{Writing, affixes, begin, formula, italic};
+use crate::contexts::{Writing, affixes, begin, flushed, formula, italic};
 use crate::ended::Ended;
+use csl_base::elem::ElemChildren;
 use csl_base::element::Affixes;
 use csl_base::entry::ChunkedString;
 use csl_base::formatting::Display;
 use csl_base::style::IndependentStyle;
-use csl_context::token::{DisplayLoc, Heights};
+use csl_context::token::Heights;
 use csl_context::writing::WritingContext;
 use std::alloc::{AllocError, Global};
 use std::fmt::Write;
@@ -27,51 +28,51 @@ struct Asked<'a> {
     formula: &'a ChunkedString,
 }
 
-/// A call that leaves the heights as they were in any case.
+/// A call that needs nothing before it.
 #[derive(Clone, Copy)]
-enum TextCall {
+enum ShortCall {
     EnsureSpace,
     PushStr,
     PushChunked,
-    PushLink,
     PushTransparent,
     PushQuotes,
     PopQuotes,
     WriteStr,
+    PushFormat,
+    PushElem,
+    ApplyPrefix,
 }
 
 /// A call.
 #[derive(Clone, Copy)]
 enum Call {
     /// By this name.
-    Text(&'static str, TextCall),
-    PushFormat,
+    Short(&'static str, ShortCall),
+    PushLink,
     PopFormat,
-    PushElem,
     CommitElem,
     DiscardElem,
     Settings,
-    ApplyPrefix,
     HasContentSince,
     ApplySuffix,
 }
 
 const CALLS: [Call; 17] = [
-    Call::Text("ensure_space", TextCall::EnsureSpace),
-    Call::Text("push_str", TextCall::PushStr),
-    Call::Text("push_chunked", TextCall::PushChunked),
-    Call::Text("push_link", TextCall::PushLink),
-    Call::Text("push_transparent", TextCall::PushTransparent),
-    Call::Text("push_quotes", TextCall::PushQuotes),
-    Call::Text("pop_quotes", TextCall::PopQuotes),
-    Call::Text("write_str", TextCall::WriteStr),
-    Call::PushFormat,
+    Call::Short("ensure_space", ShortCall::EnsureSpace),
+    Call::Short("push_str", ShortCall::PushStr),
+    Call::Short("push_chunked", ShortCall::PushChunked),
+    Call::PushLink,
+    Call::Short("push_transparent", ShortCall::PushTransparent),
+    Call::Short("push_quotes", ShortCall::PushQuotes),
+    Call::Short("pop_quotes", ShortCall::PopQuotes),
+    Call::Short("write_str", ShortCall::WriteStr),
+    Call::Short("push_format", ShortCall::PushFormat),
     Call::PopFormat,
-    Call::PushElem,
+    Call::Short("push_elem", ShortCall::PushElem),
     Call::CommitElem,
     Call::DiscardElem,
     Call::Settings,
-    Call::ApplyPrefix,
+    Call::Short("apply_prefix", ShortCall::ApplyPrefix),
     Call::HasContentSince,
     Call::ApplySuffix,
 ];
@@ -87,8 +88,13 @@ fn filled<'a>(rt: &impl Eprint, asked: Asked<'a>) -> Result<Writing<'a>, AllocEr
 {
     named(rt, "prepare");
     let mut context = begin(asked.alloc, asked.style)?;
-    context.push_str(FULL)?;
-    Ok(context)
+    match context.push_str(FULL) {
+        Ok(()) => Ok(context),
+        Err(error) => {
+            drop(context);
+            Err(error)
+        }
+    }
 }
 
 /// What a call gave; where it was refused, the heights have to be those of before.
@@ -104,52 +110,80 @@ fn given<R>(
     }
 }
 
-fn make_text_call(
+/// What a call gave that leaves the heights as they were in any case.
+fn given_level(
+    before: Heights,
+    writing: &WritingContext<'_>,
+    outcome: Result<(), AllocError>,
+) -> Result<(), Ended> {
+    match outcome {
+        _ if writing.heights() != before => Err(Ended::OtherHeights),
+        Ok(()) => Ok(()),
+        Err(_) => Err(Ended::Refused),
+    }
+}
+
+/// Whether a call was refused, without what it gave.
+fn done<R: Drop>(outcome: Result<R, AllocError>) -> Result<(), AllocError> {
+    match outcome {
+        Ok(_) => Ok(()),
+        Err(error) => Err(error),
+    }
+}
+
+fn make_short_call(
+    asked: Asked<'_>,
     context: &mut Writing<'_>,
-    call: TextCall,
-    formula: &ChunkedString,
-    url: String,
+    call: ShortCall,
 ) -> Result<(), AllocError> {
     match call {
-        TextCall::EnsureSpace => context.ensure_space(),
-        TextCall::PushStr => context.push_str("A"),
-        TextCall::PushChunked => context.push_chunked(formula),
-        TextCall::PushLink => context.push_link(formula, url),
-        TextCall::PushTransparent => context.push_transparent(2),
-        TextCall::PushQuotes => context.push_quotes(),
-        TextCall::PopQuotes => context.pop_quotes(),
-        TextCall::WriteStr => match context.write_str("A") {
+        ShortCall::EnsureSpace => context.ensure_space(),
+        ShortCall::PushStr => context.push_str("A"),
+        ShortCall::PushChunked => context.push_chunked(asked.formula),
+        ShortCall::PushTransparent => context.push_transparent(2),
+        ShortCall::PushQuotes => context.push_quotes(),
+        ShortCall::PopQuotes => context.pop_quotes(),
+        ShortCall::WriteStr => match context.write_str("A") {
             Ok(()) => Ok(()),
             Err(_) => Err(AllocError),
         },
+        ShortCall::PushFormat => done(context.writing.push_format(italic())),
+        ShortCall::PushElem => done(context.writing.push_elem(italic())),
+        ShortCall::ApplyPrefix => done(context.writing.apply_prefix(asked.affixes)),
     }
 }
 
-/// A call that leaves the heights as they were in any case.
-fn text(
+/// Whether a call leaves a stack higher.
+fn rises(call: ShortCall) -> bool {
+    matches!(
+        call,
+        ShortCall::PushFormat | ShortCall::PushElem | ShortCall::ApplyPrefix
+    )
+}
+
+/// A call that needs nothing before it. Most leave the heights as they were in any case.
+fn short(
     rt: &impl Eprint,
     asked: Asked<'_>,
     context: &mut Writing<'_>,
-    (name, call): (&str, TextCall),
+    (name, call): (&str, ShortCall),
 ) -> Result<(), Ended> {
-    let url = String::from_str(asked.alloc, "u")?;
     let before = context.writing.heights();
     named(rt, name);
-    let outcome = make_text_call(context, call, asked.formula, url);
-    given(before, &context.writing, outcome)?;
-    if context.writing.heights() == before {
-        Ok(())
+    let outcome = make_short_call(asked, context, call);
+    if rises(call) {
+        given(before, &context.writing, outcome)
     } else {
-        Err(Ended::OtherHeights)
+        given_level(before, &context.writing, outcome)
     }
 }
 
-fn push_format(rt: &impl Eprint, context: &mut Writing<'_>) -> Result<(), Ended> {
+fn push_link(rt: &impl Eprint, asked: Asked<'_>, context: &mut Writing<'_>) -> Result<(), Ended> {
+    let url = String::from_str(asked.alloc, "u")?;
     let before = context.writing.heights();
-    named(rt, "push_format");
-    let outcome = context.writing.push_format(italic());
-    let _token = given(before, &context.writing, outcome)?;
-    Ok(())
+    named(rt, "push_link");
+    let outcome = context.push_link(asked.formula, url);
+    given_level(before, &context.writing, outcome)
 }
 
 fn pop_format(rt: &impl Eprint, context: &mut Writing<'_>) -> Result<(), Ended> {
@@ -161,29 +195,18 @@ fn pop_format(rt: &impl Eprint, context: &mut Writing<'_>) -> Result<(), Ended> 
     given(before, &context.writing, outcome)
 }
 
-fn push_elem(rt: &impl Eprint, context: &mut Writing<'_>) -> Result<(), Ended> {
-    let before = context.writing.heights();
-    named(rt, "push_elem");
-    let outcome = context.writing.push_elem(italic());
-    let _token = given(before, &context.writing, outcome)?;
-    Ok(())
-}
-
-fn commit_elem(rt: &impl Eprint, context: &mut Writing<'_>) -> Result<(), Ended> {
+/// An element that is closed, or dropped.
+fn end_elem(rt: &impl Eprint, context: &mut Writing<'_>, is_kept: bool) -> Result<(), Ended> {
     let loc = context.writing.push_elem(italic())?;
     context.push_str(FULL)?;
     let before = context.writing.heights();
-    named(rt, "commit_elem");
-    let outcome = context.writing.commit_elem(loc, Some(Display::Block), None);
-    given(before, &context.writing, outcome)
-}
-
-fn discard_elem(rt: &impl Eprint, context: &mut Writing<'_>) -> Result<(), Ended> {
-    let loc = context.writing.push_elem(italic())?;
-    context.push_str(FULL)?;
-    let before = context.writing.heights();
-    named(rt, "discard_elem");
-    let outcome = context.writing.discard_elem(loc);
+    let outcome = if is_kept {
+        named(rt, "commit_elem");
+        context.writing.commit_elem(loc, Some(Display::Block), None)
+    } else {
+        named(rt, "discard_elem");
+        context.writing.discard_elem(loc)
+    };
     given(before, &context.writing, outcome)
 }
 
@@ -205,50 +228,23 @@ fn push_settings<'a>(
     given(before, &context.writing, outcome)
 }
 
-fn apply_prefix(
+/// A text in affixes that fills its room, which is looked for content, or ended by the suffix.
+fn end_prefix(
     rt: &impl Eprint,
     asked: Asked<'_>,
     context: &mut Writing<'_>,
+    is_ended: bool,
 ) -> Result<(), Ended> {
-    let before = context.writing.heights();
-    named(rt, "apply_prefix");
-    let outcome = context.writing.apply_prefix(asked.affixes);
-    let _prefix = given(before, &context.writing, outcome)?;
-    Ok(())
-}
-
-/// A prefix, behind which the text fills its room.
-fn prefixed(asked: Asked<'_>, context: &mut Writing<'_>) -> Result<(DisplayLoc, usize), AllocError>
-    ensures { IfOk result
-        (λ prefix. prefix.0.frames + 1 ≡ length (state context.new.writing).frames) }
-{
     let prefix = context.writing.apply_prefix(asked.affixes)?;
     context.push_str(FULL)?;
-    Ok(prefix)
-}
-
-fn has_content_since(
-    rt: &impl Eprint,
-    asked: Asked<'_>,
-    context: &mut Writing<'_>,
-) -> Result<(), Ended> {
-    let prefix = prefixed(asked, context)?;
     let before = context.writing.heights();
-    named(rt, "has_content_since");
-    let outcome = context.writing.has_content_since(&prefix);
-    let _shows = given(before, &context.writing, outcome)?;
-    Ok(())
-}
-
-fn apply_suffix(
-    rt: &impl Eprint,
-    asked: Asked<'_>,
-    context: &mut Writing<'_>,
-) -> Result<(), Ended> {
-    let prefix = prefixed(asked, context)?;
-    let before = context.writing.heights();
-    named(rt, "apply_suffix");
-    let outcome = context.apply_suffix(asked.affixes, prefix);
+    let outcome = if is_ended {
+        named(rt, "apply_suffix");
+        context.apply_suffix(asked.affixes, prefix)
+    } else {
+        named(rt, "has_content_since");
+        done(context.writing.has_content_since(&prefix))
+    };
     given(before, &context.writing, outcome)
 }
 
@@ -259,37 +255,37 @@ fn make<'a>(
     call: Call,
 ) -> Result<(), Ended> {
     match call {
-        Call::Text(name, call) => text(rt, asked, context, (name, call)),
-        Call::PushFormat => push_format(rt, context),
+        Call::Short(name, call) => short(rt, asked, context, (name, call)),
+        Call::PushLink => push_link(rt, asked, context),
         Call::PopFormat => pop_format(rt, context),
-        Call::PushElem => push_elem(rt, context),
-        Call::CommitElem => commit_elem(rt, context),
-        Call::DiscardElem => discard_elem(rt, context),
+        Call::CommitElem => end_elem(rt, context, true),
+        Call::DiscardElem => end_elem(rt, context, false),
         Call::Settings => push_settings(rt, asked, context),
-        Call::ApplyPrefix => apply_prefix(rt, asked, context),
-        Call::HasContentSince => has_content_since(rt, asked, context),
-        Call::ApplySuffix => apply_suffix(rt, asked, context),
+        Call::HasContentSince => end_prefix(rt, asked, context, false),
+        Call::ApplySuffix => end_prefix(rt, asked, context, true),
     }
 }
 
 /// Makes a call in a context of its own.
 fn make_alone(rt: &impl Eprint, asked: Asked<'_>, call: Call) -> Result<(), Ended> {
     let mut context = filled(rt, asked)?;
-    make(rt, asked, &mut context, call)
+    let outcome = make(rt, asked, &mut context, call);
+    drop(context);
+    outcome
 }
 
-fn flush(rt: &impl Eprint, asked: Asked<'_>) -> Result<(), Ended> {
+fn flush(rt: &impl Eprint, asked: Asked<'_>) -> Result<ElemChildren, AllocError> {
     let context = filled(rt, asked)?;
     named(rt, "flush");
-    let _tree = context.writing.flush()?;
-    Ok(())
+    flushed(context)
 }
 
 fn all(rt: &impl Eprint, asked: Asked<'_>) -> Result<(), Ended> {
     for call in CALLS {
         make_alone(rt, asked, call)?;
     }
-    flush(rt, asked)
+    done(flush(rt, asked))?;
+    Ok(())
 }
 
 /// Makes the calls of a context that take memory, in this style, and tells why they ended before
@@ -299,13 +295,15 @@ pub fn keep_heights(
     style: &IndependentStyle,
 ) -> Result<(), Ended> {
     named(rt, "prepare");
-    let affixes = affixes(rt.alloc(), "(", ")")?;
     let formula = formula(rt.alloc(), "x")?;
+    let affixes = affixes(rt.alloc(), "(", ")")?;
     let asked = Asked {
         alloc: rt.alloc(),
         style,
         affixes: &affixes,
         formula: &formula,
     };
-    all(rt, asked)
+    let outcome = all(rt, asked);
+    drop(affixes);
+    outcome
 }

@@ -6,6 +6,9 @@
 //! and the document follows. Before each call its name is written to standard error, and at the end
 //! a line that says what was seen; the exit status tells that too. What the calls write goes to
 //! standard output.
+//!
+//! What owns much is dropped by name and at one place: that is a call, where the end of a scope has
+//! the proof go through all its parts.
 #![tactic(auto)]
 
 mod cites;
@@ -19,11 +22,11 @@ use csl_base::locale::Locale;
 use csl_base::style::IndependentStyle;
 use ended::Ended;
 use heights::keep_heights;
+use json_document::document::value_of;
 use json_document::entries::entries_of;
 use json_styles::locales::locales_at;
 use json_styles::styles::styles_of;
 use serde_json::Value;
-use std::alloc::Global;
 use std::io;
 use std::process::ExitCode;
 
@@ -57,22 +60,16 @@ fn called_of(
     }
 }
 
-/// The JSON value that the text is.
-fn value_of(alloc: Global, text: &str) -> Result<Value, Ended> {
-    match Value::from_str(alloc, text) {
-        Ok(value) => Ok(value),
-        Err(error) if error.is_memory() => Err(Ended::Refused),
-        Err(_) => Err(Ended::Document),
-    }
-}
-
 /// Makes them of the document behind the first line.
 fn called_in(rt: &(impl Print + Eprint + AllocGlobal), text: &str) -> Result<(), Ended> {
     let Some((asked, document)) = text.split_once('\n') else {
         return Err(Ended::Document);
     };
     let _ = eprintln!(rt; "prepare");
-    called_of(rt, asked, &value_of(rt.alloc(), document)?)
+    let value = value_of(rt.alloc(), document)?;
+    let outcome = called_of(rt, asked, &value);
+    drop(value);
+    outcome
 }
 
 /// Reads what is asked, and makes the calls.

@@ -30,9 +30,3 @@ impl From<DriverError> for Amiss {
         }
     }
 }
-
-impl From<&'static str> for Amiss {
-    fn from(what: &'static str) -> Amiss {
-        Amiss(what)
-    }
-}

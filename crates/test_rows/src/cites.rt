@@ -1,14 +1,14 @@
 //! A cite by itself, with pieces of other kinds and a mark for a caller's own locator.
 
 use crate::amiss::Amiss;
+use crate::entries::piece;
 use crate::rings::ringless;
 use csl_base::elem::ElemChild;
 use csl_base::element::{LayoutRenderingElement, TextTarget};
-use csl_base::entry::{Chunk, ChunkKind, ChunkedString, PlainEntry};
+use csl_base::entry::{ChunkKind, ChunkedString, PlainEntry};
 use csl_base::seq::Seq;
 use csl_base::style::IndependentStyle;
 use csl_base::taxonomy::{Locator, NumberVariable, StandardVariable};
-use csl_base::text::Text;
 use csl_writing::cite::Cite;
 use csl_writing::counter::Renders;
 use csl_writing::locator::{LocatorPayload, SpecificLocator, TransparentLocator};
@@ -48,13 +48,6 @@ fn supplement(alloc: Global) -> Result<Properties<'static>, AllocError> {
     Ok(properties)
 }
 
-fn piece(alloc: Global, value: &str, kind: ChunkKind) -> Result<Chunk, AllocError> {
-    Ok(Chunk {
-        value: Text::new(String::from_str(alloc, value)?),
-        kind,
-    })
-}
-
 /// Text, verbatim text that begins with a comma, and a formula.
 fn title(alloc: Global) -> Result<ChunkedString, AllocError> {
     let mut pieces = Vec::new(alloc);
@@ -76,7 +69,7 @@ fn titled(alloc: Global) -> Result<PlainEntry, AllocError> {
     Ok(cited)
 }
 
-fn title_element() -> LayoutRenderingElement {
+pub(crate) fn title_element() -> LayoutRenderingElement {
     text_element(TextTarget::Standard(StandardVariable::Title))
 }
 
@@ -91,15 +84,23 @@ fn locating(alloc: Global) -> Result<IndependentStyle, AllocError> {
 
 fn located_of(alloc: Global, style: &IndependentStyle, cited: &PlainEntry) -> Result<Cite, Amiss> {
     let properties = supplement(alloc)?;
-    cite(alloc, style, cited, &properties)
+    let cite = cite(alloc, style, cited, &properties);
+    drop(properties);
+    cite
 }
 
 fn located_in(alloc: Global, style: &IndependentStyle) -> Result<Cite, Amiss> {
-    located_of(alloc, style, &titled(alloc)?)
+    let cited = titled(alloc)?;
+    let cite = located_of(alloc, style, &cited);
+    drop(cited);
+    cite
 }
 
 fn located(alloc: Global) -> Result<Cite, Amiss> {
-    located_in(alloc, &locating(alloc)?)
+    let style = locating(alloc)?;
+    let cite = located_in(alloc, &style);
+    drop(style);
+    cite
 }
 
 fn are_pieces_and_a_mark(children: &[ElemChild]) -> bool {
@@ -117,5 +118,7 @@ fn are_pieces_and_a_mark(children: &[ElemChild]) -> bool {
 /// a mark.
 pub(crate) fn pieces_and_marks(alloc: Global) -> Result<bool, Amiss> {
     let cite = located(alloc)?;
-    Ok(are_pieces_and_a_mark(cite.children.0.as_slice()))
+    let are_so = are_pieces_and_a_mark(cite.children.0.as_slice());
+    drop(cite);
+    Ok(are_so)
 }

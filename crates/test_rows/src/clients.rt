@@ -150,10 +150,13 @@ pub fn letters_in_answer<'a, T: EntryLike, P: Eq + Drop>(
     ensures { IfOk result
         (λ o. IfSome o (λ letters. string_bytes letters.0 ≢ string_bytes letters.1)) }
 {
-    let (_rendered, account) = driver.finish_counted(request)?;
+    let (rendered, account) = driver.finish_counted(request)?;
+    drop(rendered);
     if account.rounds != 1 {
+        drop(account);
         return Ok(None);
     }
     let letters = letters_of_two::<T, P>(alloc, &account, first, second)?;
+    drop(account);
     Ok(letters)
 }

@@ -1,13 +1,14 @@
 //! The renderings as an entry sees them: how often it is asked for anything.
 
 use crate::amiss::Amiss;
+use crate::cites::title_element;
+use crate::entries::{issued, text, title};
 use crate::rings::ringless;
-use csl_base::element::{LayoutRenderingElement, TextTarget};
-use csl_base::entry::{Chunk, ChunkKind, ChunkedString, Date, EntryLike, Person, PlainEntry};
+use csl_base::element::LayoutRenderingElement;
+use csl_base::entry::{ChunkedString, Date, EntryLike, Person, PlainEntry};
 use csl_base::seq::Seq;
 use csl_base::style::{Collapse, IndependentStyle};
 use csl_base::taxonomy::{DateVariable, NameVariable, NumberVariable, StandardVariable};
-use csl_base::text::Text;
 use csl_driver::driver::BibliographyDriver;
 use csl_driver::item::CitationItem;
 use csl_driver::request::{BibliographyRequest, CitationRequest};
@@ -19,8 +20,7 @@ use std::alloc::{AllocError, Global};
 use std::cell::Cell;
 use std::convert::Infallible;
 use test_styles::styles::{
-    author_date, authors, bibliography_of, entry, layout_of, no_affixes, no_formatting,
-    text_element,
+    author_date, authors, bibliography_of, layout_of, no_affixes, no_formatting,
 };
 
 /// An entry that counts how often it is asked for anything.
@@ -77,46 +77,27 @@ impl EntryLike for Counting {
     }
 }
 
-/// The text in one piece.
-fn one_piece(alloc: Global, text: &str) -> Result<ChunkedString, AllocError> {
-    let chunk = Chunk {
-        value: Text::new(String::from_str(alloc, text)?),
-        kind: ChunkKind::Normal,
-    };
-    Ok(ChunkedString(Seq::new(vec![in alloc; chunk]?)))
-}
-
-/// Gives an entry this title and year, by Doe.
-fn put_words(
-    alloc: Global,
-    plain: &mut PlainEntry,
-    title: &str,
-    year: i32,
-) -> Result<(), AllocError> {
+/// The names of an entry by Doe.
+fn by_doe(alloc: Global) -> Result<Vec<(NameVariable, Seq<Person>)>, AllocError> {
     let doe = Person {
-        name: Text::new(String::from_str(alloc, "Doe")?),
+        name: text(alloc, "Doe")?,
         given_name: None,
     };
-    let authors = Seq::new(vec![in alloc; doe]?);
-    let title = one_piece(alloc, title)?;
-    plain.names = Seq::new(vec![in alloc; (NameVariable::Author, authors)]?);
-    plain.texts = Seq::new(vec![in alloc; (StandardVariable::Title, title)]?);
-    plain.dates = Seq::new(vec![in alloc; (DateVariable::Issued, Date { year })]?);
-    Ok(())
+    let authors = vec![in alloc; doe]?;
+    Ok(vec![in alloc; (NameVariable::Author, Seq::new(authors))]?)
 }
 
 /// An entry with this title and year, by Doe, of which nothing was asked.
-fn titled(alloc: Global, key: &str, title: &str, year: i32) -> Result<Counting, AllocError> {
-    let mut plain = entry(alloc, key)?;
-    put_words(alloc, &mut plain, title, year)?;
+fn titled(alloc: Global, key: &str, words: &str, year: i32) -> Result<Counting, AllocError> {
+    let names = by_doe(alloc)?;
+    let texts = vec![in alloc; (StandardVariable::Title, title(alloc, words)?)]?;
+    let mut plain = issued(alloc, key, year)?;
+    plain.names = Seq::new(names);
+    plain.texts = Seq::new(texts);
     Ok(Counting {
         plain,
         asked: Cell::new(0),
     })
-}
-
-fn title() -> LayoutRenderingElement {
-    text_element(TextTarget::Standard(StandardVariable::Title))
 }
 
 fn year() -> LayoutRenderingElement {
@@ -130,20 +111,38 @@ fn year() -> LayoutRenderingElement {
 
 /// A style of titles, years and their letters, without a bibliography.
 fn titles_and_years(alloc: Global) -> Result<IndependentStyle, AllocError> {
-    let elements = vec![in alloc; title(), year()]?;
+    let elements = vec![in alloc; title_element(), year()]?;
     let mut style = author_date(alloc)?;
     style.citation.layout.elements = elements;
     style.citation.disambiguate_add_year_suffix = true;
     Ok(style)
 }
 
-/// A style of authors, titles, years and their letters, with a bibliography of titles.
+/// Authors, titles and years.
+fn listed(alloc: Global) -> Result<Vec<LayoutRenderingElement>, AllocError> {
+    Ok(vec![in alloc; authors(alloc, None)?, title_element(), year()]?)
+}
+
+/// The style with a bibliography of titles.
+fn with_titles(alloc: Global, mut style: IndependentStyle) -> Result<IndependentStyle, AllocError> {
+    match layout_of(alloc, title_element()) {
+        Ok(titles) => {
+            style.bibliography = Some(bibliography_of(titles));
+            Ok(style)
+        }
+        Err(error) => {
+            drop(style);
+            Err(error)
+        }
+    }
+}
+
+/// A style of these and their letters, with a bibliography of titles.
 fn listing_titles(alloc: Global) -> Result<IndependentStyle, AllocError> {
-    let elements = vec![in alloc; authors(alloc, None)?, title(), year()]?;
+    let elements = listed(alloc)?;
     let mut style = titles_and_years(alloc)?;
     style.citation.layout.elements = elements;
-    style.bibliography = Some(bibliography_of(layout_of(alloc, title())?));
-    Ok(style)
+    with_titles(alloc, style)
 }
 
 /// A style of authors and years, by which the second cite of an author is cut to its year.
@@ -166,23 +165,30 @@ fn take<'a>(
 ) -> Result<(), Amiss> {
     match driver.citation(CitationRequest::from_items(items, style, &[])) {
         Ok(()) => Ok(()),
-        Err(_refused) => Err(Amiss("the request was refused")),
+        Err(refused) => {
+            drop(refused);
+            Err(Amiss("the request was refused"))
+        }
     }
 }
 
-/// A driver that has taken cites of the first entry, of the second, and of the first again.
-fn cited_thrice<'a>(
+/// A cite of the entry.
+fn cite<'a>(alloc: Global, cited: &'a Counting) -> Result<Vec<Item<'a>>, AllocError> {
+    Ok(vec![in alloc; CitationItem::with_entry(cited)]?)
+}
+
+/// Has the driver take cites of the first entry, of the second, and of the first again.
+fn cite_thrice<'a>(
     alloc: Global,
+    driver: &mut Driver<'a>,
     style: &'a IndependentStyle,
     a: &'a Counting,
     b: &'a Counting,
-) -> Result<Driver<'a>, Amiss> {
-    let mut driver: Driver<'a> = BibliographyDriver::new(alloc);
+) -> Result<(), Amiss> {
     for cited in [a, b, a] {
-        let items: Vec<Item<'a>> = vec![in alloc; CitationItem::with_entry(cited)]?;
-        take(&mut driver, style, items)?;
+        take(driver, style, cite(alloc, cited)?)?;
     }
-    Ok(driver)
+    Ok(())
 }
 
 /// A cite of the entry for each purpose.
@@ -211,37 +217,38 @@ fn render(
     alloc: Global,
     style: &IndependentStyle,
     cited: &Counting,
+    properties: &CiteProperties<'_, Infallible>,
     part: Part,
 ) -> Result<(), Amiss> {
     let context = ringless(alloc, style)?;
-    let properties: CiteProperties<'_, Infallible> = CiteProperties::for_sorting(None, 0);
     let mut counter = Renders::new();
     match part {
-        Part::Cite(purpose, verdict) => {
-            let _cite = context.do_citation(
-                alloc,
-                cited,
-                &properties,
-                None,
-                None,
-                purpose,
-                verdict,
-                &mut counter,
-            )?;
-        }
-        Part::Item => {
-            let _item = context.bibliography(alloc, cited, &properties, None, None, &mut counter)?;
-        }
-        Part::Date => {
-            let _date = context.date_replacement(
-                alloc,
-                cited,
-                &properties,
-                None,
-                None,
-                &mut counter,
-            )?;
-        }
+        Part::Cite(purpose, verdict) => drop(context.do_citation(
+            alloc,
+            cited,
+            properties,
+            None,
+            None,
+            purpose,
+            verdict,
+            &mut counter,
+        )?),
+        Part::Item => drop(context.bibliography(
+            alloc,
+            cited,
+            properties,
+            None,
+            None,
+            &mut counter,
+        )?),
+        Part::Date => drop(context.date_replacement(
+            alloc,
+            cited,
+            properties,
+            None,
+            None,
+            &mut counter,
+        )?),
     }
     Ok(())
 }
@@ -249,19 +256,25 @@ fn render(
 /// How often one rendering asks.
 fn asked_by(alloc: Global, style: &IndependentStyle, part: Part) -> Result<u64, Amiss> {
     let cited = titled(alloc, "a", "X", 1999)?;
-    render(alloc, style, &cited, part)?;
-    Ok(cited.asked.get())
+    let properties = CiteProperties::for_sorting(None, 0);
+    let rendered = render(alloc, style, &cited, &properties, part);
+    let asked = cited.asked.get();
+    drop(properties);
+    drop(cited);
+    rendered?;
+    Ok(asked)
 }
 
-/// How often the first rendering and the last one of a cite for each purpose ask. The last one of a
-/// cite of the year alone is its date.
-fn asked_by_purposes(alloc: Global, style: &IndependentStyle) -> Result<u64, Amiss> {
-    let date = asked_by(alloc, style, Part::Date)?;
-    let mut asked = asked_by(alloc, style, Part::Cite(Some(CitePurpose::Year), None))?;
-    asked = asked.wrapping_add(date);
-    for purpose in [CitePurpose::Author, CitePurpose::Full, CitePurpose::Prose] {
-        let each = asked_by(alloc, style, Part::Cite(Some(purpose), None))?;
-        asked = asked.wrapping_add(each).wrapping_add(each);
+/// How often these renderings ask, each so many times.
+fn asked_by_each(
+    alloc: Global,
+    style: &IndependentStyle,
+    parts: &[(Part, u64)],
+) -> Result<u64, Amiss> {
+    let mut asked = 0u64;
+    for (part, times) in parts {
+        let each = asked_by(alloc, style, *part)?;
+        asked = asked.wrapping_add(each.wrapping_mul(*times));
     }
     Ok(asked)
 }
@@ -284,6 +297,24 @@ fn asked_of(entries: &[Counting]) -> u64 {
     asked
 }
 
+/// The renders of the answer to what the driver has taken.
+fn renders_counted<'a>(driver: Driver<'a>, style: &'a IndependentStyle) -> Result<u128, Amiss> {
+    let (answer, account) = driver.finish_counted(BibliographyRequest::new(style, None, &[]))?;
+    let renders = account.renders;
+    drop(account);
+    drop(answer);
+    Ok(renders)
+}
+
+/// The same in rounds until none marks.
+fn renders_of_full<'a>(driver: Driver<'a>, style: &'a IndependentStyle) -> Result<u128, Amiss> {
+    let (answer, account) = driver.finish_full(BibliographyRequest::new(style, None, &[]))?;
+    let renders = account.renders;
+    drop(account);
+    drop(answer);
+    Ok(renders)
+}
+
 /// The renders of three cites of two entries.
 fn renders_of_cites(
     alloc: Global,
@@ -293,9 +324,9 @@ fn renders_of_cites(
     let [a, b] = entries else {
         return Err(Amiss("there are other entries"));
     };
-    let driver = cited_thrice(alloc, style, a, b)?;
-    let (_answer, account) = driver.finish_counted(BibliographyRequest::new(style, None, &[]))?;
-    Ok(account.renders)
+    let mut driver: Driver<'_> = BibliographyDriver::new(alloc);
+    cite_thrice(alloc, &mut driver, style, a, b)?;
+    renders_counted(driver, style)
 }
 
 /// Whether three cites of two entries that read alike are rendered nine times: at first, once more
@@ -307,40 +338,48 @@ fn counts_cites(alloc: Global, style: &IndependentStyle) -> Result<bool, Amiss> 
     Ok(cite == 2 && renders == 9 && asked_of(&entries) == 18)
 }
 
-/// A driver of those cites, and of one for each purpose of a third entry.
-fn cited_for_purposes<'a>(
+/// Has the driver take those cites, and one for each purpose of a third entry.
+fn cite_for_purposes<'a>(
     alloc: Global,
+    driver: &mut Driver<'a>,
     style: &'a IndependentStyle,
     entries: &'a [Counting],
-) -> Result<Driver<'a>, Amiss> {
+) -> Result<(), Amiss> {
     let [a, b, c] = entries else {
         return Err(Amiss("there are other entries"));
     };
-    let mut driver = cited_thrice(alloc, style, a, b)?;
-    take(&mut driver, style, each_purpose(alloc, c)?)?;
-    Ok(driver)
+    cite_thrice(alloc, driver, style, a, b)?;
+    take(driver, style, each_purpose(alloc, c)?)
 }
 
-/// The renders of all these, in rounds until none marks.
+/// The renders of all these.
 fn renders_of_all(
     alloc: Global,
     style: &IndependentStyle,
     entries: &[Counting],
 ) -> Result<u128, Amiss> {
-    let driver = cited_for_purposes(alloc, style, entries)?;
-    let (_answer, account) = driver.finish_full(BibliographyRequest::new(style, None, &[]))?;
-    Ok(account.renders)
+    let mut driver: Driver<'_> = BibliographyDriver::new(alloc);
+    cite_for_purposes(alloc, &mut driver, style, entries)?;
+    renders_of_full(driver, style)
 }
 
-/// How often these are to ask: nine renderings of cites, two for each purpose, and one for each
-/// item of the bibliography, which has the key besides.
+/// How often these are to ask: nine renderings of cites, the first and the last one for each
+/// purpose, and one for each item of the bibliography, which has the key besides. The last one of a
+/// cite of the year alone is its date.
 fn asked_by_all(alloc: Global, style: &IndependentStyle) -> Result<u64, Amiss> {
-    let cite = asked_by(alloc, style, Part::Cite(None, None))?;
     if asked_by(alloc, style, Part::Item)? != 1 {
         return Err(Amiss("an item asks for more than its title"));
     }
-    let asked = cite.wrapping_mul(9).wrapping_add(3 * (1 + 1));
-    Ok(asked.wrapping_add(asked_by_purposes(alloc, style)?))
+    let parts = [
+        (Part::Cite(None, None), 9),
+        (Part::Cite(Some(CitePurpose::Author), None), 2),
+        (Part::Cite(Some(CitePurpose::Year), None), 1),
+        (Part::Date, 1),
+        (Part::Cite(Some(CitePurpose::Full), None), 2),
+        (Part::Cite(Some(CitePurpose::Prose), None), 2),
+    ];
+    let asked = asked_by_each(alloc, style, &parts)?;
+    Ok(asked.wrapping_add(3 * (1 + 1)))
 }
 
 /// Whether they ask so often.
@@ -354,20 +393,25 @@ fn counts_all(alloc: Global, style: &IndependentStyle) -> Result<bool, Amiss> {
     Ok(renders == 20 && asked_of(&entries) == wanted)
 }
 
+/// A cite of each entry.
+fn each_entry<'a>(alloc: Global, entries: &'a [Counting]) -> Result<Vec<Item<'a>>, Amiss> {
+    let mut items: Vec<Item<'a>> = Vec::new(alloc);
+    for cited in entries {
+        items.push(CitationItem::with_entry(cited))?;
+    }
+    Ok(items)
+}
+
 /// The renders of a request of both entries.
 fn renders_of_both(
     alloc: Global,
     style: &IndependentStyle,
     entries: &[Counting],
 ) -> Result<u128, Amiss> {
-    let mut items: Vec<Item<'_>> = Vec::new(alloc);
-    for cited in entries {
-        items.push(CitationItem::with_entry(cited))?;
-    }
+    let items = each_entry(alloc, entries)?;
     let mut driver: Driver<'_> = BibliographyDriver::new(alloc);
     take(&mut driver, style, items)?;
-    let (_answer, account) = driver.finish_counted(BibliographyRequest::new(style, None, &[]))?;
-    Ok(account.renders)
+    renders_counted(driver, style)
 }
 
 /// Whether two cites of one author, of which the second is cut to its year at last, are rendered
@@ -383,17 +427,26 @@ fn counts_collapsed(alloc: Global, style: &IndependentStyle) -> Result<bool, Ami
 
 /// Whether the renders of cites that read alike are counted.
 fn counts_cites_alone(alloc: Global) -> Result<bool, Amiss> {
-    counts_cites(alloc, &titles_and_years(alloc)?)
+    let style = titles_and_years(alloc)?;
+    let are_counted = counts_cites(alloc, &style);
+    drop(style);
+    are_counted
 }
 
 /// Whether those of cites for each purpose, and of items, are.
 fn counts_listed(alloc: Global) -> Result<bool, Amiss> {
-    counts_all(alloc, &listing_titles(alloc)?)
+    let style = listing_titles(alloc)?;
+    let are_counted = counts_all(alloc, &style);
+    drop(style);
+    are_counted
 }
 
 /// Whether those of cites that are cut are.
 fn counts_cut(alloc: Global) -> Result<bool, Amiss> {
-    counts_collapsed(alloc, &collapsing_years(alloc)?)
+    let style = collapsing_years(alloc)?;
+    let are_counted = counts_collapsed(alloc, &style);
+    drop(style);
+    are_counted
 }
 
 /// The account counts the renderings that the entries see.

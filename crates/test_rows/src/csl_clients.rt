@@ -77,7 +77,8 @@ pub fn letters_in_csl_answer<'a, T: EntryLike, P: Eq + Drop>(
         → (alike.one.adds_suffix || alike.other.adds_suffix) ≡ true
         → HaveOtherLetters r.1) }
 {
-    let (_rendered, account) = driver.finish_csl(request)?;
+    let (rendered, account) = driver.finish_csl(request)?;
+    drop(rendered);
     let letters = letters_of_alike::<T, P>(alloc, &account, first, second)?;
     Ok((account, letters))
 }

@@ -1,12 +1,22 @@
 //! Texts, lists and the initials of names, by themselves.
 use crate::amiss::Amiss;
-use csl_base::entry::{Chunk, ChunkKind, ChunkedString, Person};
+use csl_base::entry::{Chunk, ChunkKind, ChunkedString, Date, Person, PlainEntry};
 use csl_base::seq::Seq;
+use csl_base::taxonomy::DateVariable;
 use csl_base::text::Text;
 use std::alloc::{AllocError, Global};
+use test_styles::styles::entry;
 
-fn text(alloc: Global, text: &str) -> Result<Text, AllocError> {
+pub(crate) fn text(alloc: Global, text: &str) -> Result<Text, AllocError> {
     Ok(Text::new(String::from_str(alloc, text)?))
+}
+
+/// An entry that has a key and a year alone.
+pub(crate) fn issued(alloc: Global, key: &str, year: i32) -> Result<PlainEntry, AllocError> {
+    let dates = vec![in alloc; (DateVariable::Issued, Date { year })]?;
+    let mut plain = entry(alloc, key)?;
+    plain.dates = Seq::new(dates);
+    Ok(plain)
 }
 
 /// A person of this given name, if there is one.
@@ -24,8 +34,9 @@ fn person(alloc: Global, given: Option<&str>) -> Result<Person, AllocError> {
 /// Whether a person of this given name has these initials.
 fn has_initials(alloc: Global, given: Option<&str>, want: &str) -> Result<bool, AllocError> {
     let person = person(alloc, given)?;
-    let initials = person.initials(alloc)?;
-    Ok(initials.as_str() == want)
+    let initials = person.initials(alloc);
+    drop(person);
+    Ok(initials?.as_str() == want)
 }
 
 /// Initials are the first letters of the parts of a given name.
@@ -71,18 +82,23 @@ pub(crate) fn lists_are_copied(alloc: Global) -> Result<bool, Amiss> {
     Ok(copy.into_vec().len() == 2 && is_equal)
 }
 
+/// A piece of a title.
+pub(crate) fn piece(alloc: Global, words: &str, kind: ChunkKind) -> Result<Chunk, AllocError> {
+    Ok(Chunk {
+        value: text(alloc, words)?,
+        kind,
+    })
+}
+
 /// A title in one piece.
-fn title(alloc: Global) -> Result<ChunkedString, AllocError> {
-    let piece = Chunk {
-        value: text(alloc, "a")?,
-        kind: ChunkKind::Normal,
-    };
-    Ok(ChunkedString(Seq::new(vec![in alloc; piece]?)))
+pub(crate) fn title(alloc: Global, words: &str) -> Result<ChunkedString, AllocError> {
+    let whole = piece(alloc, words, ChunkKind::Normal)?;
+    Ok(ChunkedString(Seq::new(vec![in alloc; whole]?)))
 }
 
 /// The copy of a text in pieces is equal to it.
 pub(crate) fn pieces_are_copied(alloc: Global) -> Result<bool, Amiss> {
-    let title = title(alloc)?;
+    let title = title(alloc, "a")?;
     let copy = title.clone()?;
     Ok(copy == title)
 }

@@ -16,7 +16,7 @@ use csl_driver::laws::{
     suffixes_count_entries,
 };
 use csl_driver::mode::mode_equality_decides;
-use csl_driver::rendered::Rendered;
+use csl_driver::rendered::{BibliographyItem, Rendered, RenderedCitation};
 use csl_driver::request::{BibliographyRequest, CitationRequest};
 use csl_limits::limits::limits_equality_decides;
 use std::alloc::{AllocError, Global};
@@ -25,9 +25,11 @@ use test_styles::styles::{entry, numeric, value_style};
 
 type Item<'a> = CitationItem<'a, PlainEntry, Infallible>;
 
-type Request<'a> = CitationRequest<'a, PlainEntry, Infallible>;
+/// A request of plain entries.
+pub(crate) type Request<'a> = CitationRequest<'a, PlainEntry, Infallible>;
 
-type Driver<'a> = BibliographyDriver<'a, PlainEntry, Infallible>;
+/// A driver that takes such requests.
+pub(crate) type Driver<'a> = BibliographyDriver<'a, PlainEntry, Infallible>;
 
 fn entries_of(alloc: Global, keys: &[&str]) -> Result<Vec<PlainEntry>, AllocError> {
     let mut entries = Vec::new(alloc);
@@ -38,7 +40,7 @@ fn entries_of(alloc: Global, keys: &[&str]) -> Result<Vec<PlainEntry>, AllocErro
 }
 
 /// A request that cites the entry.
-fn cite<'a>(
+pub(crate) fn cite<'a>(
     alloc: Global,
     style: &'a IndependentStyle,
     cited: &'a PlainEntry,
@@ -50,26 +52,46 @@ fn cite<'a>(
 fn take<'a>(driver: &mut Driver<'a>, request: Request<'a>) -> Result<(), Amiss> {
     match driver.citation(request) {
         Ok(()) => Ok(()),
-        Err(_refused) => Err(Amiss("the request was refused")),
+        Err(refused) => {
+            drop(refused);
+            Err(Amiss("the request was refused"))
+        }
     }
 }
 
-/// A driver that has taken a request for each of the entries.
-fn driver_of<'a>(
+/// Has the driver take a request for each of the entries.
+pub(crate) fn take_each<'a>(
     alloc: Global,
+    driver: &mut Driver<'a>,
     style: &'a IndependentStyle,
     entries: &'a [PlainEntry],
-) -> Result<Driver<'a>, Amiss> {
-    let mut driver: Driver<'a> = BibliographyDriver::new(alloc);
+) -> Result<(), Amiss> {
     for each in entries {
-        take(&mut driver, cite(alloc, style, each)?)?;
+        take(driver, cite(alloc, style, each)?)?;
     }
-    Ok(driver)
+    Ok(())
+}
+
+/// The answer to one request.
+pub(crate) fn answer<'a>(
+    alloc: Global,
+    request: Request<'a>,
+    wanted: BibliographyRequest<'a, 'a, PlainEntry>,
+) -> Result<Rendered, Amiss> {
+    let mut driver: Driver<'a> = BibliographyDriver::new(alloc);
+    take(&mut driver, request)?;
+    Ok(driver.finish(wanted)?)
 }
 
 fn push_plain(text: &mut String, tree: &ElemChildren) -> Result<(), AllocError> {
     tree.write_plain(text)?;
     text.push_str("\n")
+}
+
+fn push_item(text: &mut String, item: &BibliographyItem) -> Result<(), AllocError> {
+    text.push_str(item.key.as_str())?;
+    text.push_str(" ")?;
+    push_plain(text, &item.content)
 }
 
 /// The citations as plain text, a line each, and then for each item its key and its content.
@@ -80,9 +102,7 @@ fn lines(alloc: Global, rendered: &Rendered) -> Result<String, AllocError> {
     }
     if let Some(bibliography) = &rendered.bibliography {
         for item in bibliography.items.as_slice() {
-            text.push_str(item.key.as_str())?;
-            text.push_str(" ")?;
-            push_plain(&mut text, &item.content)?;
+            push_item(&mut text, item)?;
         }
     }
     Ok(text)
@@ -112,22 +132,37 @@ pub(crate) fn laws() {
     final_order_laws::<PlainEntry, Infallible>();
 }
 
+/// The answer to a request for each of the entries, in the style.
+fn numbered_of(
+    alloc: Global,
+    style: &IndependentStyle,
+    entries: &[PlainEntry],
+) -> Result<Rendered, Amiss> {
+    let mut driver: Driver<'_> = BibliographyDriver::new(alloc);
+    take_each(alloc, &mut driver, style, entries)?;
+    Ok(driver.finish(wanted(style))?)
+}
+
 /// The answer to a request for each of the keys, in the style.
 fn numbered_in(alloc: Global, style: &IndependentStyle, keys: &[&str]) -> Result<Rendered, Amiss> {
     let entries = entries_of(alloc, keys)?;
-    Ok(driver_of(alloc, style, &entries)?.finish(wanted(style))?)
+    numbered_of(alloc, style, &entries)
 }
 
 /// The answer in the numeric style.
 fn numbered(alloc: Global, keys: &[&str]) -> Result<Rendered, Amiss> {
-    numbered_in(alloc, &numeric(alloc)?, keys)
+    let style = numeric(alloc)?;
+    let answer = numbered_in(alloc, &style, keys);
+    drop(style);
+    answer
 }
 
 /// Equal entries at two places have one number and one item.
 pub(crate) fn equal_entries_are_one(alloc: Global) -> Result<bool, Amiss> {
     let rendered = numbered(alloc, &["a", "a"])?;
-    let lines = lines(alloc, &rendered)?;
-    Ok(lines.as_str() == "[1]\n[1]\na [1]\n")
+    let lines = lines(alloc, &rendered);
+    drop(rendered);
+    Ok(lines?.as_str() == "[1]\n[1]\na [1]\n")
 }
 
 /// A request for the bibliography of the style.
@@ -135,37 +170,44 @@ fn wanted<'a>(style: &'a IndependentStyle) -> BibliographyRequest<'a, 'a, PlainE
     BibliographyRequest::new(style, None, &[])
 }
 
-/// A driver that has taken one request with the note number 7.
-fn noting<'a>(
+/// The answer to one request with the note number 7.
+fn noted_of<'a>(
     alloc: Global,
     style: &'a IndependentStyle,
     cited: &'a PlainEntry,
-) -> Result<Driver<'a>, Amiss> {
+) -> Result<Rendered, Amiss> {
     let items: Vec<Item<'a>> = vec![in alloc; CitationItem::with_entry(cited)]?;
-    let mut driver: Driver<'a> = BibliographyDriver::new(alloc);
-    take(
-        &mut driver,
-        CitationRequest::new(items, style, None, &[], Some(7)),
-    )?;
-    Ok(driver)
+    let request = CitationRequest::new(items, style, None, &[], Some(7));
+    answer(alloc, request, wanted(style))
 }
 
-/// The answer to that in the style.
+/// The answer to that for an entry of the key a.
 fn noted_in(alloc: Global, style: &IndependentStyle) -> Result<Rendered, Amiss> {
     let cited = entry(alloc, "a")?;
-    Ok(noting(alloc, style, &cited)?.finish(wanted(style))?)
+    let answer = noted_of(alloc, style, &cited);
+    drop(cited);
+    answer
 }
 
 /// The answer to that in a style of the class.
 fn noted(alloc: Global, class: StyleClass) -> Result<Rendered, Amiss> {
-    noted_in(alloc, &value_style(alloc, class, "T")?)
+    let style = value_style(alloc, class, "T")?;
+    let answer = noted_in(alloc, &style);
+    drop(style);
+    answer
 }
+
+const NO_CITATION: Amiss = Amiss("no citation");
 
 /// The note number that the citation has in it.
 fn number_in(alloc: Global, class: StyleClass) -> Result<Option<usize>, Amiss> {
     let rendered = noted(alloc, class)?;
-    let citation = rendered.citations.as_slice().first().ok_or("no citation")?;
-    Ok(citation.note_number)
+    let number = match rendered.citations.as_slice().first() {
+        Some(citation) => Ok(citation.note_number),
+        None => Err(NO_CITATION),
+    };
+    drop(rendered);
+    number
 }
 
 /// Note numbers are kept in styles of notes alone.
@@ -174,10 +216,18 @@ pub(crate) fn note_numbers_in_notes(alloc: Global) -> Result<bool, Amiss> {
     Ok(in_notes == Some(7) && number_in(alloc, StyleClass::InText)?.is_none())
 }
 
+/// Whether the first cite of the citation is marked.
+fn is_marked(citation: &RenderedCitation) -> bool {
+    citation.citation.find_meta(&ElemMeta::Entry(0)).is_some()
+}
+
 /// Each cite is marked with its place, and a style without a bibliography gives none.
 pub(crate) fn cites_are_marked(alloc: Global) -> Result<bool, Amiss> {
     let rendered = noted(alloc, StyleClass::Note)?;
-    let citation = rendered.citations.as_slice().first().ok_or("no citation")?;
-    let is_marked = citation.citation.find_meta(&ElemMeta::Entry(0)).is_some();
-    Ok(is_marked && rendered.bibliography.is_none())
+    let are_marked = match rendered.citations.as_slice().first() {
+        Some(first) => Ok(is_marked(first) && rendered.bibliography.is_none()),
+        None => Err(NO_CITATION),
+    };
+    drop(rendered);
+    are_marked
 }

@@ -1,55 +1,41 @@
 //! What callers get from the laws of an answer, each once at a concrete type.
 use crate::amiss::Amiss;
 use crate::clients::{entry_of_number, hidden_between, letters_in_answer};
-use crate::csl_clients::letters_of_alike;
-use csl_base::entry::{Date, PlainEntry};
-use csl_base::seq::Seq;
+use crate::csl_clients::letters_in_csl_answer;
+use crate::entries::issued;
+use crate::finish::{Driver, take_each};
+use csl_base::entry::PlainEntry;
 use csl_base::style::IndependentStyle;
-use csl_base::taxonomy::DateVariable;
 use csl_driver::account::Account;
 use csl_driver::driver::BibliographyDriver;
-use csl_driver::item::CitationItem;
-use csl_driver::request::{BibliographyRequest, CitationRequest};
+use csl_driver::request::BibliographyRequest;
 use std::alloc::{AllocError, Global};
 use std::convert::Infallible;
-use test_styles::styles::{author_date, entry, numeric};
+use test_styles::styles::{author_date, numeric};
 
-/// A driver with requests that cite the entries one by one, and with numbers from 2 on.
-fn driver_of<'a>(
-    alloc: Global,
-    style: &'a IndependentStyle,
-    entries: &'a [PlainEntry],
-) -> Result<BibliographyDriver<'a, PlainEntry, Infallible>, Amiss> {
-    let mut driver = BibliographyDriver::new(alloc).with_citation_number_offset(2);
-    for cited in entries {
-        let items: Vec<CitationItem<'a, PlainEntry, Infallible>> = vec![in alloc;
-            CitationItem::with_entry(cited),
-        ]?;
-        if let Err(_refused) = driver.citation(CitationRequest::from_items(items, style, &[])) {
-            return Err(Amiss("the request was refused"));
-        }
-    }
-    Ok(driver)
+/// A driver whose numbers begin at 2.
+fn driver_from_two<'a>(alloc: Global) -> Driver<'a> {
+    BibliographyDriver::new(alloc).with_citation_number_offset(2)
 }
 
-/// The account of these.
+/// The account of an answer to requests that cite the entries one by one.
 fn account_of<'a>(
     alloc: Global,
     style: &'a IndependentStyle,
     entries: &'a [PlainEntry],
 ) -> Result<Account<'a, PlainEntry>, Amiss> {
-    let driver = driver_of(alloc, style, entries)?;
-    let (_rendered, account) = driver.finish_counted(BibliographyRequest::new(style, None, &[]))?;
+    let mut driver = driver_from_two(alloc);
+    take_each(alloc, &mut driver, style, entries)?;
+    let (rendered, account) = driver.finish_counted(BibliographyRequest::new(style, None, &[]))?;
+    drop(rendered);
     Ok(account)
 }
 
 /// Entries of these keys, issued in 1999.
-fn issued(alloc: Global, keys: &[&str]) -> Result<Vec<PlainEntry>, AllocError> {
+fn all_issued(alloc: Global, keys: &[&str]) -> Result<Vec<PlainEntry>, AllocError> {
     let mut entries = Vec::new(alloc);
     for key in keys {
-        let mut plain = entry(alloc, *key)?;
-        plain.dates = Seq::new(vec![in alloc; (DateVariable::Issued, Date { year: 1999 })]?);
-        entries.push(plain)?;
+        entries.push(issued(alloc, *key, 1999)?)?;
     }
     Ok(entries)
 }
@@ -80,17 +66,22 @@ fn are_found(
     for (number, key) in [(2, "a"), (3, "b"), (4, "c")] {
         are_found = has_key(&account, number, key) && are_found;
     }
+    drop(account);
     Ok(are_found)
 }
 
 /// Whether they do in this style.
 fn are_found_in(alloc: Global, style: &IndependentStyle) -> Result<bool, Amiss> {
-    are_found(alloc, style, &issued(alloc, &["a", "b", "c"])?)
+    let entries = all_issued(alloc, &["a", "b", "c"])?;
+    are_found(alloc, style, &entries)
 }
 
 /// Each number from the offset on is that of an entry.
 pub(crate) fn numbers_have_entries(alloc: Global) -> Result<bool, Amiss> {
-    are_found_in(alloc, &numeric(alloc)?)
+    let style = numeric(alloc)?;
+    let are_found = are_found_in(alloc, &style);
+    drop(style);
+    are_found
 }
 
 /// Hidden numbers are those between two shown ones.
@@ -99,48 +90,65 @@ pub(crate) fn hidden_numbers_are_read(alloc: Global) -> Result<bool, Amiss> {
     Ok(hidden.as_slice() == [2, 3].as_slice())
 }
 
-/// Whether the suffixes of these two have the letters a and b.
+/// Whether these are the letters a and b.
+fn are_a_and_b(letters: &Option<(String, String)>) -> Result<bool, Amiss> {
+    match letters {
+        Some((one, other)) => Ok(one.as_str() == "a" && other.as_str() == "b"),
+        None => Err(Amiss("no suffixes")),
+    }
+}
+
+/// Whether the suffixes of these two have these letters.
 fn are_lettered(
     alloc: Global,
     style: &IndependentStyle,
     entries: &[PlainEntry],
 ) -> Result<bool, Amiss> {
-    let driver = driver_of(alloc, style, entries)?;
+    let mut driver = driver_from_two(alloc);
+    take_each(alloc, &mut driver, style, entries)?;
     let request = BibliographyRequest::new(style, None, &[]);
     let letters = letters_in_answer(alloc, driver, request, 0, 1)?;
-    let (one, other) = letters.ok_or("no suffixes")?;
-    Ok(one.as_str() == "a" && other.as_str() == "b")
+    are_a_and_b(&letters)
 }
 
-/// Whether they do in this style.
-fn are_lettered_in(alloc: Global, style: &IndependentStyle) -> Result<bool, Amiss> {
-    are_lettered(alloc, style, &issued(alloc, &["a", "b"])?)
-}
-
-/// The letters of two works that read alike differ.
-pub(crate) fn suffixes_have_letters(alloc: Global) -> Result<bool, Amiss> {
-    are_lettered_in(alloc, &lettered(alloc)?)
-}
-
-/// Whether they have these letters where works are told apart as CSL has it.
+/// Whether they do where works are told apart as CSL has it.
 fn are_lettered_by_csl(
     alloc: Global,
     style: &IndependentStyle,
     entries: &[PlainEntry],
 ) -> Result<bool, Amiss> {
-    let driver = driver_of(alloc, style, entries)?;
-    let (_rendered, account) = driver.finish_csl(BibliographyRequest::new(style, None, &[]))?;
-    let letters = letters_of_alike::<PlainEntry, Infallible>(alloc, &account, 0, 1)?;
-    let (one, other) = letters.ok_or("no suffixes")?;
-    Ok(one.as_str() == "a" && other.as_str() == "b")
+    let mut driver = driver_from_two(alloc);
+    take_each(alloc, &mut driver, style, entries)?;
+    let request = BibliographyRequest::new(style, None, &[]);
+    let (account, letters) = letters_in_csl_answer(alloc, driver, request, 0, 1)?;
+    drop(account);
+    are_a_and_b(&letters)
 }
 
-/// Whether they do in this style.
-fn are_lettered_by_csl_in(alloc: Global, style: &IndependentStyle) -> Result<bool, Amiss> {
-    are_lettered_by_csl(alloc, style, &issued(alloc, &["a", "b"])?)
+/// Whether the letters of two works that read alike are so in this style, in either way.
+fn are_lettered_in(alloc: Global, style: &IndependentStyle, by_csl: bool) -> Result<bool, Amiss> {
+    let entries = all_issued(alloc, &["a", "b"])?;
+    if by_csl {
+        are_lettered_by_csl(alloc, style, &entries)
+    } else {
+        are_lettered(alloc, style, &entries)
+    }
+}
+
+/// Whether they are in a style of years and their letters.
+fn have_letters(alloc: Global, by_csl: bool) -> Result<bool, Amiss> {
+    let style = lettered(alloc)?;
+    let are_lettered = are_lettered_in(alloc, &style, by_csl);
+    drop(style);
+    are_lettered
+}
+
+/// The letters of two works that read alike differ.
+pub(crate) fn suffixes_have_letters(alloc: Global) -> Result<bool, Amiss> {
+    have_letters(alloc, false)
 }
 
 /// So do those of two works whose later mentions read alike.
 pub(crate) fn alike_mentions_have_letters(alloc: Global) -> Result<bool, Amiss> {
-    are_lettered_by_csl_in(alloc, &lettered(alloc)?)
+    have_letters(alloc, true)
 }

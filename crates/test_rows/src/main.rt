@@ -3,6 +3,9 @@
 //!
 //! Each case is run with ample memory, and a line says whether it is as it should be, or why it
 //! ended before its end. The exit status is 0 where all are as they should be.
+//!
+//! What owns much is dropped by name and at one place: that is a call, where the end of a scope has
+//! the proof go through all its parts.
 #![tactic(auto)]
 
 mod amiss;

@@ -38,6 +38,14 @@ fn are_raised(alloc: Global, means: &Means) -> Result<bool, AllocError> {
     }
 }
 
+/// Whether the copy of means is equal to them.
+fn are_copied(means: &Means) -> Result<bool, AllocError> {
+    let copy = means.clone()?;
+    let is_equal = copy == *means;
+    drop(copy);
+    Ok(is_equal)
+}
+
 /// The least forms raise those of a cite's names, and are copied.
 pub(crate) fn means_raise_names(alloc: Global) -> Result<bool, Amiss> {
     let least = [
@@ -45,6 +53,8 @@ pub(crate) fn means_raise_names(alloc: Global) -> Result<bool, Amiss> {
         DisambiguatedNameForm::Short,
     ];
     let means = of_names(alloc, &least)?;
-    let copy = means.clone()?;
-    Ok(are_raised(alloc, &means)? && copy == means)
+    let are_raised = are_raised(alloc, &means);
+    let are_copied = are_copied(&means);
+    drop(means);
+    Ok(are_raised? && are_copied?)
 }

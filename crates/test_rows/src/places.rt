@@ -64,6 +64,6 @@ pub(crate) fn writes_at_lent_places(alloc: Global) -> Result<bool, Amiss> {
     let mut tree = names(alloc, inner)?;
     make_last_text_italic(&mut tree);
     strip_first_names(&mut tree);
-    let left = tree.find_names().ok_or("no names")?;
+    let left = tree.find_names().ok_or(Amiss("no names"))?;
     Ok(in_italics(&left.children) && left.children.0.len() == 1)
 }

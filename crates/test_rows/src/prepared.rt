@@ -1,27 +1,15 @@
 //! Requests of a prepared style have the answers of those of the style.
 use crate::amiss::Amiss;
+use crate::finish::{Request, answer, cite};
 use csl_base::entry::PlainEntry;
 use csl_base::style::IndependentStyle;
-use csl_driver::driver::BibliographyDriver;
 use csl_driver::item::CitationItem;
 use csl_driver::prepared::PreparedStyle;
 use csl_driver::rendered::Rendered;
 use csl_driver::request::{BibliographyRequest, CitationRequest};
 use csl_driver::terms::TermTables;
 use std::alloc::{AllocError, Global};
-use std::convert::Infallible;
 use test_styles::styles::{entry, numeric};
-
-type Request<'a> = CitationRequest<'a, PlainEntry, Infallible>;
-
-fn cite<'a>(
-    alloc: Global,
-    style: &'a IndependentStyle,
-    cited: &'a PlainEntry,
-) -> Result<Request<'a>, AllocError> {
-    let items = vec![in alloc; CitationItem::with_entry(cited)]?;
-    Ok(CitationRequest::new(items, style, None, &[], None))
-}
 
 fn cite_prepared<'a, 's: 'a>(
     alloc: Global,
@@ -37,19 +25,6 @@ fn prepared<'a>(alloc: Global, style: &'a IndependentStyle) -> Result<PreparedSt
     match PreparedStyle::new(alloc, style)? {
         Ok(prepared) => Ok(prepared),
         Err(_) => Err(Amiss("the style has a ring")),
-    }
-}
-
-/// The answer to one request.
-fn answer<'a>(
-    alloc: Global,
-    request: Request<'a>,
-    wanted: BibliographyRequest<'a, 'a, PlainEntry>,
-) -> Result<Rendered, Amiss> {
-    let mut driver = BibliographyDriver::new(alloc);
-    match driver.citation(request) {
-        Ok(()) => Ok(driver.finish(wanted)?),
-        Err(_refused) => Err(Amiss("the request was refused")),
     }
 }
 
@@ -74,28 +49,57 @@ fn answer_prepared<'a, 's: 'a>(
     answer(alloc, cite_prepared(alloc, prepared, files, cited)?, wanted)
 }
 
+/// Whether the style answers so.
+fn is_answered_so(
+    alloc: Global,
+    style: &IndependentStyle,
+    cited: &PlainEntry,
+    answer: &Rendered,
+) -> Result<bool, Amiss> {
+    let rendered = answer_unprepared(alloc, style, cited)?;
+    let is_so = rendered == *answer;
+    drop(rendered);
+    Ok(is_so)
+}
+
 /// Whether both answers to a cite are equal.
 fn answers_alike(
     alloc: Global,
     prepared: &PreparedStyle<'_>,
+    files: &TermTables<'_>,
     cited: &PlainEntry,
 ) -> Result<bool, Amiss> {
-    let files = TermTables::new(alloc, &[])?;
-    let answered = answer_prepared(alloc, prepared, &files, cited)?;
-    Ok(answered == answer_unprepared(alloc, prepared.style(), cited)?)
+    let answer = answer_prepared(alloc, prepared, files, cited)?;
+    let are_alike = is_answered_so(alloc, prepared.style(), cited, &answer);
+    drop(answer);
+    are_alike
 }
 
 /// Whether they are for an entry of the key a.
-fn answers_alike_in(alloc: Global, prepared: &PreparedStyle<'_>) -> Result<bool, Amiss> {
-    answers_alike(alloc, prepared, &entry(alloc, "a")?)
+fn answers_alike_in(
+    alloc: Global,
+    prepared: &PreparedStyle<'_>,
+    files: &TermTables<'_>,
+) -> Result<bool, Amiss> {
+    let cited = entry(alloc, "a")?;
+    let are_alike = answers_alike(alloc, prepared, files, &cited);
+    drop(cited);
+    are_alike
 }
 
 /// Whether they are in this style.
 fn answers_alike_of(alloc: Global, style: &IndependentStyle) -> Result<bool, Amiss> {
-    answers_alike_in(alloc, &prepared(alloc, style)?)
+    let files = TermTables::new(alloc, &[])?;
+    let prepared = prepared(alloc, style)?;
+    let are_alike = answers_alike_in(alloc, &prepared, &files);
+    drop(prepared);
+    are_alike
 }
 
 /// A prepared style answers as the style does.
 pub(crate) fn prepared_answers_alike(alloc: Global) -> Result<bool, Amiss> {
-    answers_alike_of(alloc, &numeric(alloc)?)
+    let style = numeric(alloc)?;
+    let are_alike = answers_alike_of(alloc, &style);
+    drop(style);
+    are_alike
 }

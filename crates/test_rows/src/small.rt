@@ -83,25 +83,57 @@ pub(crate) fn small_values() -> bool {
     is_greatest && are_defaults && are_brackets
 }
 
-/// The properties of a cite that points at this payload.
-fn located(alloc: Global, payload: u32) -> Result<CiteProperties<'static, u32>, AllocError> {
+type Properties = CiteProperties<'static, u32>;
+
+/// What points at this payload, as a copy has it.
+fn pointing(alloc: Global, payload: u32) -> Result<LocatorPayload<'static, u32>, AllocError> {
     let payload = TransparentLocator::new(alloc, payload)?;
-    let locator = SpecificLocator(Locator::Page, LocatorPayload::Transparent(payload.clone()?));
-    let locator = SpecificLocator(locator.0, locator.1.clone()?);
-    Ok(CiteProperties::for_sorting(Some(locator.clone()?), 2))
+    let copy: Result<_, _> = payload.clone();
+    drop(payload);
+    Ok(LocatorPayload::Transparent(copy?))
+}
+
+/// The properties of a cite that points at this payload.
+fn located(alloc: Global, payload: u32) -> Result<Properties, AllocError> {
+    let payload = pointing(alloc, payload)?;
+    let locator = SpecificLocator(Locator::Page, payload.clone()?);
+    drop(payload);
+    let copy: Result<_, _> = locator.clone();
+    drop(locator);
+    Ok(CiteProperties::for_sorting(Some(copy?), 2))
+}
+
+/// Whether these are the properties of a cite that points at this payload.
+fn are_of(alloc: Global, properties: &Properties, payload: u32) -> Result<bool, AllocError> {
+    let others = located(alloc, payload)?;
+    let are_equal = others == *properties;
+    drop(others);
+    Ok(are_equal)
 }
 
 /// Whether the properties of one cite that points at its payload are those of the other.
 fn are_equal(alloc: Global, payload: u32, other: u32) -> Result<bool, AllocError> {
     let properties = located(alloc, payload)?;
-    Ok(located(alloc, other)? == properties)
+    let are_equal = are_of(alloc, &properties, other);
+    drop(properties);
+    are_equal
 }
 
 /// Whether what stands in a bibliography has no locator, and so is another.
+fn lose_their_locator(properties: &Properties) -> Result<bool, AllocError> {
+    let without = properties.clone()?.speculative.for_bibliography();
+    let is_another = !(without == properties.speculative);
+    let has_none = without.locator.is_none();
+    drop(without);
+    Ok(has_none && is_another)
+}
+
+/// Whether the properties of a cite that points at a payload lose their locator there.
 fn loses_its_locator(alloc: Global) -> Result<bool, AllocError> {
     let properties = located(alloc, 7)?;
-    let without = properties.clone()?.speculative.for_bibliography();
-    Ok(without.locator.is_none() && !(without == properties.speculative))
+    let loses = lose_their_locator(&properties);
+    drop(properties);
+    loses
 }
 
 /// Whether the copy of a state is equal to it.

@@ -3,7 +3,7 @@
 //! each thing is taken out of the table, one at a time, and exactly that has to be missing; and a
 //! source that has what is in the table is asked for what an empty one lacks.
 
-use crate::costs::{Answer, Costs, finished_with, in_csl, in_rounds, is_same};
+use crate::costs::{Answer, Costs, Driver, finished_with, in_csl, in_rounds, is_same};
 use crate::filling::fill_from;
 use crate::hosting::host_styles;
 use crate::printing::print_answer;
@@ -14,19 +14,22 @@ use cite_document::error::RunError;
 use cite_document::filling::{bibliography_request, filled_driver};
 use csl_base::entry::PlainEntry;
 use csl_base::locale::Locale;
-use csl_driver::error::DriverError;
+use csl_driver::request::BibliographyRequest;
 use csl_driver::terms::TermTables;
+use csl_writers::writer::CiteWriter;
 use csl_writing::layout_writer::LayoutWriter;
 use host_driver::drive::{Driven, drive, drive_csl};
 use host_table::table::Table;
 use json_document::document::{Job, job_in, top_of, value_of};
 use json_document::entries::entries_of;
 use json_document::finders::found_styles;
+use json_document::found::FoundStyle;
 use json_document::rounds::Rounds;
 use json_styles::locales::locales_at;
 use json_styles::styles::{NamedStyle, styles_of};
 use serde_json::Value;
-use std::alloc::Global;
+use std::alloc::{AllocError, Global};
+use std::convert::Infallible;
 
 /// What is done with the document.
 #[derive(Clone, Copy)]
@@ -42,7 +45,7 @@ pub enum TableWay {
 }
 
 /// What a document asks for, with the tables of its locales.
-#[derive(Clone, Copy)]
+#[derive(Drop)]
 pub struct Asking<'a, 'e> {
     pub alloc: Global,
     pub job: &'a Job<'e>,
@@ -50,8 +53,9 @@ pub struct Asking<'a, 'e> {
 }
 
 /// What is read of a document once.
-#[derive(Clone, Copy)]
+#[derive(Drop)]
 struct Parts<'d> {
+    alloc: Global,
     object: &'d Value,
     /// As the document has them.
     styles: &'d [NamedStyle],
@@ -69,58 +73,79 @@ pub fn by_table(
 ) -> Result<Seen, RunError> {
     let _ = eprintln!(rt; "prepare");
     let value = value_of(rt.alloc(), document)?;
-    answered_in(rt, top_of(rt.alloc(), &value)?, way)
+    let seen = answered_in(rt, rt.alloc(), &value, way);
+    drop(value);
+    seen
 }
 
 fn answered_in(
-    rt: &(impl Print + Eprint + AllocGlobal),
-    object: &Value,
+    rt: &(impl Print + Eprint),
+    alloc: Global,
+    value: &Value,
     way: TableWay,
 ) -> Result<Seen, RunError> {
-    let styles = styles_of(rt.alloc(), object)?;
-    let entries = entries_of(rt.alloc(), object)?;
-    let locales = locales_at(rt.alloc(), object, "locales")?;
-    with_hosts(rt, object, &styles, &entries, &locales, way)
+    let object = top_of(alloc, value)?;
+    let styles = styles_of(alloc, object)?;
+    let hosts = host_styles(alloc, object)?;
+    with_styles(rt, alloc, object, &styles, &hosts, way)
 }
 
-/// Does it with the styles of a host too.
-fn with_hosts(
-    rt: &(impl Print + Eprint + AllocGlobal),
+/// Does it with the styles of the document and with those of a host.
+fn with_styles(
+    rt: &(impl Print + Eprint),
+    alloc: Global,
     object: &Value,
     styles: &[NamedStyle],
-    entries: &[PlainEntry],
-    locales: &[Locale],
+    hosts: &[NamedStyle],
     way: TableWay,
 ) -> Result<Seen, RunError> {
-    let hosts = host_styles(rt.alloc(), object)?;
+    let entries = entries_of(alloc, object)?;
+    let locales = locales_at(alloc, object, "locales")?;
     let parts = Parts {
+        alloc,
         object,
         styles,
-        hosts: &hosts,
-        entries,
-        locales,
+        hosts,
+        entries: &entries,
+        locales: &locales,
     };
     by_layouts(rt, &parts, way)
 }
 
-/// Answers it in the styles as they are.
-fn by_layouts(
-    rt: &(impl Print + Eprint + AllocGlobal),
-    parts: &Parts<'_>,
-    way: TableWay,
-) -> Result<Seen, RunError> {
-    let found = found_styles(rt.alloc(), parts.styles, parts.object)?;
-    let job = job_in(
-        rt.alloc(),
-        &found,
+/// What the document asks for in these of its styles.
+fn job_of<'e, 's: 'e>(parts: &Parts<'e>, found: &'e [FoundStyle<'s>]) -> Result<Job<'e>, RunError> {
+    Ok(job_in(
+        parts.alloc,
+        found,
         parts.entries,
         parts.locales,
         parts.object,
-    )?;
-    let files = TermTables::new(rt.alloc(), job.locales)?;
+    )?)
+}
+
+/// Answers it in the styles as they are.
+fn by_layouts(
+    rt: &(impl Print + Eprint),
+    parts: &Parts<'_>,
+    way: TableWay,
+) -> Result<Seen, RunError> {
+    let found = found_styles(parts.alloc, parts.styles, parts.object)?;
+    let job = job_of(parts, &found)?;
+    let seen = asked_by_layouts(rt, parts, &job, way);
+    drop(job);
+    seen
+}
+
+fn asked_by_layouts(
+    rt: &(impl Print + Eprint),
+    parts: &Parts<'_>,
+    job: &Job<'_>,
+    way: TableWay,
+) -> Result<Seen, RunError> {
+    let files = TermTables::new(parts.alloc, job.locales)?;
     let asking = Asking {
-        alloc: rt.alloc(),
-        job: &job,
+        alloc: parts.alloc,
+        job,
         files: &files,
     };
     match way {
@@ -132,70 +157,77 @@ fn by_layouts(
 /// Answers it so many times by the layouts.
 fn finish_often(asking: &Asking<'_, '_>, times: usize) -> Result<Seen, RunError> {
     for _ in 0..times {
-        finished(asking)?;
+        drop(answered_by(asking, &mut LayoutWriter::new())?);
     }
     Ok(Seen::Answer)
 }
 
-/// Answers it by the layouts, and keeps nothing of that.
-fn finished(asking: &Asking<'_, '_>) -> Result<(), RunError> {
-    let job = asking.job;
-    let driver = filled_driver(asking.alloc, &job.requests, asking.files, job.offset)?;
-    let request = bibliography_request(asking.alloc, job, asking.files)?;
-    match finished_with(driver, request, job.rounds, &mut LayoutWriter::new()) {
-        Ok(_) => Ok(()),
-        Err(error) => Err(DriverError::from(error).into()),
-    }
-}
-
-/// The answer by the layouts; what they write goes into the writer's table.
-fn recorded_by<'a>(
+/// The answer as this writer writes it.
+fn answered_by<'a, W: CiteWriter<PlainEntry, Infallible, Error = AllocError>>(
     asking: &Asking<'a, '_>,
-    recorder: &mut Recorder<'_>,
+    writer: &mut W,
 ) -> Result<Answer<'a>, RunError> {
     let job = asking.job;
     let driver = filled_driver(asking.alloc, &job.requests, asking.files, job.offset)?;
     let request = bibliography_request(asking.alloc, job, asking.files)?;
-    match finished_with(driver, request, job.rounds, recorder) {
-        Ok(answer) => Ok(answer),
-        Err(error) => Err(DriverError::from(error).into()),
-    }
+    Ok(finished_with(driver, request, job.rounds, writer)?)
 }
 
-/// Answers it by the layouts, and then from the table.
+/// Answers it by the layouts; what they write goes into a table, from which it is answered then.
 fn recorded(
-    rt: &(impl Print + Eprint + AllocGlobal),
+    rt: &(impl Print + Eprint),
     parts: &Parts<'_>,
     asking: &Asking<'_, '_>,
     way: TableWay,
 ) -> Result<Seen, RunError> {
     let _ = eprintln!(rt; "finish_with");
-    let mut recorder = Recorder::new(rt.alloc(), parts.styles);
-    let answer = recorded_by(asking, &mut recorder)?;
-    by_hosts(rt, parts, &answer, &mut recorder.table, way)
+    let mut recorder = Recorder::new(parts.alloc, parts.styles);
+    let seen = recorded_by(rt, parts, asking, &mut recorder, way);
+    drop(recorder);
+    seen
+}
+
+fn recorded_by(
+    rt: &(impl Print + Eprint),
+    parts: &Parts<'_>,
+    asking: &Asking<'_, '_>,
+    recorder: &mut Recorder<'_>,
+    way: TableWay,
+) -> Result<Seen, RunError> {
+    let answer = answered_by(asking, recorder)?;
+    let seen = by_hosts(rt, parts, &answer, &mut recorder.table, way);
+    drop(answer);
+    seen
 }
 
 /// Answers it from the table, in the styles of a host.
 fn by_hosts(
-    rt: &(impl Print + Eprint + AllocGlobal),
+    rt: &(impl Print + Eprint),
     parts: &Parts<'_>,
     answer: &Answer<'_>,
     table: &mut Table,
     way: TableWay,
 ) -> Result<Seen, RunError> {
     let _ = eprintln!(rt; "prepare");
-    let found = found_styles(rt.alloc(), parts.hosts, parts.object)?;
-    let job = job_in(
-        rt.alloc(),
-        &found,
-        parts.entries,
-        parts.locales,
-        parts.object,
-    )?;
-    let files = TermTables::new(rt.alloc(), job.locales)?;
+    let found = found_styles(parts.alloc, parts.hosts, parts.object)?;
+    let job = job_of(parts, &found)?;
+    let seen = asked_by_hosts(rt, parts.alloc, &job, answer, table, way);
+    drop(job);
+    seen
+}
+
+fn asked_by_hosts(
+    rt: &(impl Print + Eprint),
+    alloc: Global,
+    job: &Job<'_>,
+    answer: &Answer<'_>,
+    table: &mut Table,
+    way: TableWay,
+) -> Result<Seen, RunError> {
+    let files = TermTables::new(alloc, job.locales)?;
     let asking = Asking {
-        alloc: rt.alloc(),
-        job: &job,
+        alloc,
+        job,
         files: &files,
     };
     from_table(rt, &asking, answer, table, way)
@@ -257,17 +289,26 @@ pub fn driven<'a>(asking: &Asking<'a, '_>, table: &Table) -> Result<Driven<Costs
             let driven = drive(asking.alloc, driver, request, mode, table)?;
             Ok(in_rounds(driven))
         }
-        Rounds::Csl => {
-            let driven = drive_csl(asking.alloc, &driver, &request, table)?;
-            Ok(in_csl(driven))
-        }
+        Rounds::Csl => driven_by_csl(asking.alloc, driver, request, table),
     }
+}
+
+fn driven_by_csl<'a>(
+    alloc: Global,
+    driver: Driver<'a>,
+    request: BibliographyRequest<'_, 'a, PlainEntry>,
+    table: &Table,
+) -> Result<Driven<Costs<'a>>, RunError> {
+    let driven = drive_csl(alloc, &driver, &request, table);
+    drop(request);
+    drop(driver);
+    Ok(in_csl(driven?))
 }
 
 /// Answers it so many times from the table.
 fn drive_often(asking: &Asking<'_, '_>, table: &Table, times: usize) -> Result<Seen, RunError> {
     for _ in 0..times {
-        driven(asking, table)?;
+        drop(driven(asking, table)?);
     }
     Ok(Seen::Answer)
 }
@@ -279,11 +320,14 @@ fn agrees(
     table: &Table,
     answer: &Answer<'_>,
 ) -> Result<bool, RunError> {
-    match driven(asking, table)? {
+    let driven = driven(asking, table)?;
+    let agrees = match &driven {
         Driven::Answer(rendered, costs) => {
-            print_answer(rt, &rendered);
-            Ok(rendered == answer.0 && is_same(&costs, &answer.1))
+            print_answer(rt, rendered);
+            *rendered == answer.0 && is_same(costs, &answer.1)
         }
-        Driven::Missing(_) => Ok(false),
-    }
+        Driven::Missing(_) => false,
+    };
+    drop(driven);
+    Ok(agrees)
 }

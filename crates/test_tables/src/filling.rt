@@ -35,12 +35,13 @@ impl<'t> CiteSource for WrittenBefore<'t> {
 }
 
 fn copy_of(cite: &Cite) -> Result<Cite, AllocError> {
+    let children = cite.children.clone()?;
     let first_name = match &cite.first_name {
         Some(names) => Some(names.clone()?),
         None => None,
     };
     Ok(Cite {
-        children: cite.children.clone()?,
+        children,
         checked_disambiguate: cite.checked_disambiguate,
         first_name,
         identifier_usage: cite.identifier_usage,
@@ -109,8 +110,23 @@ pub fn fill_from(
     let driver = filled_driver(asking.alloc, &job.requests, asking.files, job.offset)?;
     let request = bibliography_request(asking.alloc, job, asking.files)?;
     let source = WrittenBefore { table: whole };
-    match filled(asking, &driver, &request, calls_at_most(&answer.1), &source) {
-        Ok(filled) => Ok(compared(&filled, whole, answer)),
+    let filled = filled(asking, &driver, &request, calls_at_most(&answer.1), &source);
+    drop(request);
+    drop(driver);
+    seen_of(filled, whole, answer)
+}
+
+fn seen_of(
+    filled: Result<FilledAnswer<Costs<'_>>, FillError<AllocError>>,
+    whole: &Table,
+    answer: &Answer<'_>,
+) -> Result<Seen, RunError> {
+    match filled {
+        Ok(filled) => {
+            let seen = compared(&filled, whole, answer);
+            drop(filled);
+            Ok(seen)
+        }
         Err(FillError::Driver(error)) => Err(error.into()),
         Err(FillError::Unsettled) => Ok(Seen::Amiss("there is no answer after so many calls")),
         Err(_) => Err(RunError::OutOfMemory),

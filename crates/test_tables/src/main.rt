@@ -7,6 +7,9 @@
 //! is in it, for whoever measures how long these take. Before each call its name is written to
 //! standard error, and at the end a line that says what was seen; the exit status tells that too.
 //! The answer from the table goes to standard output.
+//!
+//! What owns much is dropped by name and at one place: that is a call, where the end of a scope has
+//! the proof go through all its parts.
 #![tactic(auto)]
 
 mod by_table;

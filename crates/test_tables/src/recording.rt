@@ -34,6 +34,20 @@ fn name_of<'s>(styles: &'s [NamedStyle], style: &IndependentStyle) -> &'s str {
     ""
 }
 
+/// Puts what was written into a table.
+pub fn put_in(table: &mut Table, key: TaskKey, written: Cite) -> Result<(), AllocError> {
+    match table.insert(key, written) {
+        Ok(before) => {
+            drop(before);
+            Ok(())
+        }
+        Err(refused) => {
+            drop(refused);
+            Err(AllocError)
+        }
+    }
+}
+
 /// A tree by itself, as what was written.
 fn tree_alone(children: ElemChildren) -> Cite {
     Cite {
@@ -58,18 +72,19 @@ impl<'s> Recorder<'s> {
     fn put(
         &mut self,
         alloc: Global,
-        key: TaskKey,
+        mut key: TaskKey,
         style: &IndependentStyle,
         written: Cite,
     ) -> Result<(), AllocError> {
-        let key = TaskKey {
-            style: Text::copied(alloc, name_of(self.styles, style))?,
-            ..key
-        };
-        match self.table.insert(key, written) {
-            Ok(_) => Ok(()),
-            Err(_) => Err(AllocError),
+        match Text::copied(alloc, name_of(self.styles, style)) {
+            Ok(name) => key.style = name,
+            Err(error) => {
+                drop(key);
+                drop(written);
+                return Err(error);
+            }
         }
+        put_in(&mut self.table, key, written)
     }
 }
 

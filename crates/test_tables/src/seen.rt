@@ -1,7 +1,7 @@
 //! What is seen of a document that is answered from a table.
 
 /// What was seen.
-#[derive(Clone, Copy)]
+#[derive(Drop)]
 pub enum Seen {
     /// Each answer was the expected one.
     Answer,

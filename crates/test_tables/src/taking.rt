@@ -1,27 +1,22 @@
 //! A table from which each thing is taken out in turn.
 
 use crate::by_table::{Asking, driven};
+use crate::recording::put_in;
 use crate::seen::Seen;
 use cite_document::error::RunError;
-use csl_writers::cite::Cite;
 use host_driver::drive::Driven;
 use host_table::key::TaskKey;
 use host_table::table::Table;
 
 /// Whether the table lacks this and nothing else.
 fn lacks_alone(asking: &Asking<'_, '_>, table: &Table, key: &TaskKey) -> Result<bool, RunError> {
-    match driven(asking, table)? {
-        Driven::Answer(_, _) => Ok(false),
-        Driven::Missing(missing) => Ok(missing.len() == 1 && missing.contains(key)),
-    }
-}
-
-/// Puts what was taken out into a table.
-fn put(table: &mut Table, key: TaskKey, written: Cite) -> Result<(), RunError> {
-    match table.insert(key, written) {
-        Ok(_) => Ok(()),
-        Err(_) => Err(RunError::OutOfMemory),
-    }
+    let driven = driven(asking, table)?;
+    let lacks = match &driven {
+        Driven::Answer(_, _) => false,
+        Driven::Missing(missing) => missing.len() == 1 && missing.contains(key),
+    };
+    drop(driven);
+    Ok(lacks)
 }
 
 /// Whether exactly the first thing is missing once it is taken out; then it is put back, at the
@@ -30,9 +25,9 @@ fn misses_first(asking: &Asking<'_, '_>, table: &mut Table) -> Result<bool, RunE
     let Some((key, written)) = table.shift_remove_index(0) else {
         return Ok(false);
     };
-    let is_missing = lacks_alone(asking, table, &key)?;
-    put(table, key, written)?;
-    Ok(is_missing)
+    let is_missing = lacks_alone(asking, table, &key);
+    put_in(table, key, written)?;
+    is_missing
 }
 
 /// Takes each thing out of the table in turn: exactly that has to be missing.

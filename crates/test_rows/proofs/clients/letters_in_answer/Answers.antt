@@ -10,8 +10,8 @@ use Rattle.test_rows.proofs.clients.letters_in_answer.Goals as goal
 pub returns : goal.returns
 returns g c =
     let job = job_of c.args.driver c.args.request in
-    let laws = c.in_ok-_rendered.ensures.answer.laws in
+    let laws = c.in_ok-rendered.ensures.answer.laws in
     IfSome_then c.in_ok-letters.letters c.in_ok-letters.ensures.got
     (λ letters got.
-    letters-differ g.T.PartialEq.eq g.met.T.Eq.laws g.P.PartialEq.eq (layout_writing g.T.EntryLike.answers) RoundMode.Three job (c.in_ok-_rendered._rendered, c.in_ok-_rendered.account) laws
-    refl c.if-account-ne1.false c.args.first c.args.second (string_bytes letters.0) (string_bytes letters.1) c.requires (got RoundMode.Three job c.in_ok-_rendered._rendered laws))
+    letters-differ g.T.PartialEq.eq g.met.T.Eq.laws g.P.PartialEq.eq (layout_writing g.T.EntryLike.answers) RoundMode.Three job (c.in_ok-rendered.rendered, c.in_ok-rendered.account) laws
+    refl c.if-account-ne1.false c.args.first c.args.second (string_bytes letters.0) (string_bytes letters.1) c.requires (got RoundMode.Three job c.in_ok-rendered.rendered laws))
