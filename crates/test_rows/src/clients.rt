@@ -21,9 +21,9 @@ ghost use Rattle.std.specs.Prelude.{
   string_bytes,
 };
 ghost use Rattle.csl_assembly.specs.declared.rendered.Rendered.{Rendered};
-ghost use Rattle.csl_collapse.specs.NumberLaws.{between};
 ghost use Rattle.csl_driver.specs.Answer.{Job};
 ghost use Rattle.csl_driver.specs.AnswerLaws.{HaveNumbersOnce, KeepsLaws};
+ghost use Rattle.csl_lookup.specs.Between.{between};
 ghost use Rattle.csl_lookup.specs.States.{year_suffix};
 ghost use Rattle.csl_lookup.specs.SuffixLetters.{suffix_letters};
 ghost use Rattle.csl_round_laws.specs.declared.mode.RoundMode.{RoundMode};

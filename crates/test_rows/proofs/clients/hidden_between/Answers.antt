@@ -1,5 +1,5 @@
 use Rattle.std.proofs.Common.{◌∙◌, sym}
-use Rattle.csl_collapse.specs.NumberLaws.{between}
+use Rattle.csl_lookup.specs.Between.{between}
 use Rattle.test_rows.proofs.clients.hidden_between.Goals as goal
 
 pub returns : goal.returns
