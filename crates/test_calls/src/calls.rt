@@ -5,12 +5,13 @@ use crate::equality::{print_copies, print_requests, print_wanted, properties_dif
 use crate::free::calls_without_memory;
 use crate::passes::by_passes;
 use crate::streams::{Failing, Slow};
+use cite_document::document::Document;
 use cite_document::error::RunError;
 use cite_document::faults::print_fault_bytes;
+use cite_document::filling::bibliography_order;
 use cite_document::input::read_input;
 use cite_document::running::run;
 use csl_base::entry::PlainEntry;
-use csl_base::locale::Locale;
 use csl_driver::account::Account;
 use csl_driver::driver::BibliographyDriver;
 use csl_driver::error::{CitationRefused, DriverError};
@@ -19,14 +20,11 @@ use csl_driver::request::{BibliographyRequest, CitationRequest, Order};
 use csl_driver::standalone::standalone_citation;
 use csl_driver::terms::TermTables;
 use csl_round_laws::mode::RoundMode;
-use json_document::document::{Job, job_in, top_of, utf8_text, value_of};
-use json_document::entries::entries_of;
+use json_document::document::utf8_text;
 use json_document::finders::found_styles;
-use json_document::requests::{AskedCite, AskedRequest, copied_code, driver_request};
+use json_document::found::FoundStyle;
+use json_document::requests::{AskedRequest, Targets, copied_code, driver_request};
 use json_document::rounds::Rounds;
-use json_styles::locales::locales_at;
-use json_styles::styles::{NamedStyle, styles_of};
-use serde_json::Value;
 use std::alloc::{AllocError, Global};
 use std::convert::Infallible;
 
@@ -68,6 +66,13 @@ pub enum Seen {
     Amiss(&'static str),
 }
 
+/// A document, and what the indexes of its job point to.
+#[derive(Clone, Copy)]
+struct Asking<'d, 'f> {
+    document: &'d Document,
+    targets: Targets<'d, 'f>,
+}
+
 type Driver<'e> = BibliographyDriver<'e, PlainEntry, Infallible>;
 
 pub(crate) type Request<'e> = CitationRequest<'e, PlainEntry, Infallible>;
@@ -86,19 +91,43 @@ fn take<'e>(driver: &mut Driver<'e>, request: Request<'e>) -> Result<bool, RunEr
     }
 }
 
+/// The style of an index.
+fn style_at<'d, 'f>(
+    targets: Targets<'d, 'f>,
+    index: usize,
+) -> Result<&'d FoundStyle<'f>, RunError> {
+    match targets.styles.get(index) {
+        Some(found) => Ok(found),
+        None => Err(RunError::Document),
+    }
+}
+
+/// A request for the driver, of the prepared style if there is one.
+fn prepared_request<'e, 'f: 'e>(
+    alloc: Global,
+    request: &'e AskedRequest,
+    targets: Targets<'e, 'f>,
+) -> Result<Request<'e>, RunError> {
+    match driver_request(alloc, request, targets)? {
+        Some(made) => Ok(made),
+        None => Err(RunError::Document),
+    }
+}
+
 /// A request for the driver, of the style itself.
 fn unprepared_request<'e, 'f: 'e>(
     alloc: Global,
-    request: &'e AskedRequest<'f>,
-    files: &'e TermTables<'f>,
-) -> Result<Request<'e>, AllocError> {
-    let made = driver_request(alloc, request, files)?;
+    request: &'e AskedRequest,
+    targets: Targets<'e, 'f>,
+) -> Result<Request<'e>, RunError> {
+    let made = prepared_request(alloc, request, targets)?;
+    let found = style_at(targets, request.style)?;
     let CitationRequest { items, locale, .. } = made;
     Ok(CitationRequest::new(
         items,
-        request.style.style,
+        found.style,
         locale,
-        files.locales(),
+        targets.files.locales(),
         request.note_number,
     ))
 }
@@ -106,14 +135,14 @@ fn unprepared_request<'e, 'f: 'e>(
 /// A request for the driver: of the prepared style, if there is one, or of the style itself.
 fn request_of<'e, 'f: 'e>(
     alloc: Global,
-    request: &'e AskedRequest<'f>,
-    files: &'e TermTables<'f>,
+    request: &'e AskedRequest,
+    targets: Targets<'e, 'f>,
     is_prepared: bool,
-) -> Result<Request<'e>, AllocError> {
+) -> Result<Request<'e>, RunError> {
     if is_prepared {
-        driver_request(alloc, request, files)
+        prepared_request(alloc, request, targets)
     } else {
-        unprepared_request(alloc, request, files)
+        unprepared_request(alloc, request, targets)
     }
 }
 
@@ -121,14 +150,13 @@ fn request_of<'e, 'f: 'e>(
 fn take_all<'e, 'f: 'e>(
     rt: &(impl Print + Eprint + AllocGlobal),
     driver: &mut Driver<'e>,
-    job: &'e Job<'f>,
-    files: &'e TermTables<'f>,
+    asking: Asking<'e, 'f>,
     is_prepared: bool,
 ) -> Result<bool, RunError> {
     let mut came_back = false;
-    for request in &job.requests {
+    for request in &asking.document.job.requests {
         let _ = eprintln!(rt; "prepare");
-        let made = request_of(rt.alloc(), request, files, is_prepared)?;
+        let made = request_of(rt.alloc(), request, asking.targets, is_prepared)?;
         let _ = eprintln!(rt; "citation");
         came_back |= take(driver, made)?;
     }
@@ -136,25 +164,30 @@ fn take_all<'e, 'f: 'e>(
 }
 
 /// What the driver is asked of the bibliography.
-fn bibliography_request<'o, 'e>(
+fn bibliography_request<'o, 'e, 'f: 'e>(
     alloc: Global,
-    job: &'o Job<'e>,
-    files: &'o TermTables<'e>,
+    asking: Asking<'e, 'f>,
+    order: &'o Option<Vec<&'e PlainEntry>>,
     is_prepared: bool,
-) -> Result<BibliographyRequest<'o, 'e, PlainEntry>, AllocError> {
-    let locale = copied_code(alloc, &job.wanted.locale)?;
-    let order = match &job.wanted.order {
+) -> Result<BibliographyRequest<'o, 'e, PlainEntry>, RunError> {
+    let wanted = &asking.document.job.wanted;
+    let files = asking.targets.files;
+    let found = style_at(asking.targets, wanted.style)?;
+    let locale = copied_code(alloc, &wanted.locale)?;
+    let order = match order {
         Some(entries) => Some(Order(entries.as_slice())),
         None => None,
     };
-    match job.wanted.style.prepared() {
+    match found.prepared() {
         Some(prepared) if is_prepared => Ok(BibliographyRequest::of_prepared(
             prepared, locale, files, order,
         )),
-        _ => {
-            let style = job.wanted.style.style;
-            Ok(BibliographyRequest::ordered(style, locale, files.locales(), order))
-        }
+        _ => Ok(BibliographyRequest::ordered(
+            found.style,
+            locale,
+            files.locales(),
+            order,
+        )),
     }
 }
 
@@ -305,16 +338,17 @@ fn print_asked<'e>(
 /// Hands in all requests and the bibliography's, and prints what is asked for.
 fn answer_all<'e, 'f: 'e>(
     rt: &(impl Print + Eprint + AllocGlobal),
-    job: &'e Job<'f>,
-    files: &'e TermTables<'f>,
+    asking: Asking<'e, 'f>,
     how: How,
 ) -> Result<Seen, RunError> {
     let alloc = rt.alloc();
+    let job = &asking.document.job;
     let mut driver = Driver::new(alloc).with_citation_number_offset(job.offset);
     let is_prepared = !matches!(how, How::FinishUnprepared);
-    let came_back = take_all(rt, &mut driver, job, files, is_prepared)?;
+    let came_back = take_all(rt, &mut driver, asking, is_prepared)?;
     let _ = eprintln!(rt; "prepare");
-    let request = bibliography_request(alloc, job, files, is_prepared)?;
+    let order = bibliography_order(alloc, &job.wanted, asking.targets.entries)?;
+    let request = bibliography_request(alloc, asking, &order, is_prepared)?;
     print_asked(rt, driver, request, job.rounds, how)?;
     if came_back {
         Ok(Seen::AnswerAtLast)
@@ -326,12 +360,11 @@ fn answer_all<'e, 'f: 'e>(
 /// Answers each request by itself.
 fn answer_alone<'e, 'f: 'e>(
     rt: &(impl Print + Eprint + AllocGlobal),
-    job: &'e Job<'f>,
-    files: &'e TermTables<'f>,
+    asking: Asking<'e, 'f>,
 ) -> Result<Seen, RunError> {
-    for request in &job.requests {
+    for request in &asking.document.job.requests {
         let _ = eprintln!(rt; "prepare");
-        let made = driver_request(rt.alloc(), request, files)?;
+        let made = prepared_request(rt.alloc(), request, asking.targets)?;
         let _ = eprintln!(rt; "standalone_citation");
         let tree = standalone_citation(rt.alloc(), made)?;
         let _ = println!(rt; "{tree}");
@@ -342,20 +375,22 @@ fn answer_alone<'e, 'f: 'e>(
 /// The requests of a document.
 fn requests_of<'e, 'f: 'e>(
     alloc: Global,
-    job: &'e Job<'f>,
-    files: &'e TermTables<'f>,
+    asking: Asking<'e, 'f>,
 ) -> Result<Vec<Request<'e>>, RunError> {
     let mut requests = Vec::new(alloc);
-    for request in &job.requests {
-        requests.push(driver_request(alloc, request, files)?)?;
+    for request in &asking.document.job.requests {
+        requests.push(prepared_request(alloc, request, asking.targets)?)?;
     }
     Ok(requests)
 }
 
-/// The first cite of the first request.
-fn first_cite<'r, 'f>(job: &'r Job<'f>) -> Option<&'r AskedCite<'f>> {
-    match job.requests.as_slice().first() {
-        Some(request) => request.items.as_slice().first(),
+/// The entry of the first cite of the first request.
+fn first_entry(document: &Document) -> Option<&PlainEntry> {
+    match document.job.requests.as_slice().first() {
+        Some(request) => match request.items.as_slice().first() {
+            Some(cite) => document.entries.get(cite.entry),
+            None => None,
+        },
         None => None,
     }
 }
@@ -363,15 +398,15 @@ fn first_cite<'r, 'f>(job: &'r Job<'f>) -> Option<&'r AskedCite<'f>> {
 /// Makes calls that take no memory.
 fn call_free<'e, 'f: 'e>(
     rt: &(impl Print + Eprint + AllocGlobal),
-    job: &'e Job<'f>,
-    files: &'e TermTables<'f>,
+    asking: Asking<'e, 'f>,
 ) -> Result<Seen, RunError> {
-    let requests = requests_of(rt.alloc(), job, files)?;
-    let Some(cite) = first_cite(job) else {
+    let document = asking.document;
+    let requests = requests_of(rt.alloc(), asking)?;
+    let Some(entry) = first_entry(document) else {
         return Err(RunError::Document);
     };
-    let style = job.wanted.style.style;
-    if calls_without_memory(rt, &requests, style, cite.entry, job.locales)? {
+    let found = style_at(asking.targets, document.job.wanted.style)?;
+    if calls_without_memory(rt, &requests, found.style, entry, &document.locales)? {
         Ok(Seen::Answer)
     } else {
         Ok(Seen::Amiss("a call that takes no memory gave what it may not"))
@@ -389,11 +424,12 @@ fn compare_requests(rt: &impl Print, requests: &[Request<'_>]) -> Result<(), All
 /// alone.
 fn compare<'e, 'f: 'e>(
     rt: &(impl Print + AllocGlobal),
-    job: &'e Job<'f>,
-    files: &'e TermTables<'f>,
+    asking: Asking<'e, 'f>,
 ) -> Result<Seen, RunError> {
-    compare_requests(rt, &requests_of(rt.alloc(), job, files)?)?;
-    print_wanted(rt, &bibliography_request(rt.alloc(), job, files, true)?);
+    let wanted = &asking.document.job.wanted;
+    compare_requests(rt, &requests_of(rt.alloc(), asking)?)?;
+    let order = bibliography_order(rt.alloc(), wanted, asking.targets.entries)?;
+    print_wanted(rt, &bibliography_request(rt.alloc(), asking, &order, true)?);
     if properties_differ() {
         Ok(Seen::Answer)
     } else {
@@ -404,54 +440,25 @@ fn compare<'e, 'f: 'e>(
 /// Calls the passes by themselves.
 fn call_passes<'e, 'f: 'e>(
     rt: &(impl Print + Eprint + AllocGlobal),
-    job: &'e Job<'f>,
-    files: &'e TermTables<'f>,
+    asking: Asking<'e, 'f>,
 ) -> Result<Seen, RunError> {
-    let requests = requests_of(rt.alloc(), job, files)?;
+    let requests = requests_of(rt.alloc(), asking)?;
     by_passes(rt, &requests)
 }
 
-/// Does it with what the document asks for, and the tables of its locales.
+/// Does it with what the document asks for.
 fn answered_over<'e, 'f: 'e>(
     rt: &(impl Print + Eprint + AllocGlobal),
-    job: &'e Job<'f>,
-    files: &'e TermTables<'f>,
+    asking: Asking<'e, 'f>,
     how: How,
 ) -> Result<Seen, RunError> {
     match how {
-        How::Alone => answer_alone(rt, job, files),
-        How::Passes => call_passes(rt, job, files),
-        How::Equality => compare(rt, job, files),
-        How::Free => call_free(rt, job, files),
-        _ => answer_all(rt, job, files, how),
+        How::Alone => answer_alone(rt, asking),
+        How::Passes => call_passes(rt, asking),
+        How::Equality => compare(rt, asking),
+        How::Free => call_free(rt, asking),
+        _ => answer_all(rt, asking, how),
     }
-}
-
-/// Does it with what the value asks for, of these styles, entries and locales.
-fn answered_of(
-    rt: &(impl Print + Eprint + AllocGlobal),
-    object: &Value,
-    styles: &[NamedStyle],
-    entries: &[PlainEntry],
-    locales: &[Locale],
-    how: How,
-) -> Result<Seen, RunError> {
-    let found = found_styles(rt.alloc(), styles, object)?;
-    let job = job_in(rt.alloc(), &found, entries, locales, object)?;
-    let files = TermTables::new(rt.alloc(), job.locales)?;
-    answered_over(rt, &job, &files, how)
-}
-
-/// Does it with the value of a document.
-fn answered_in(
-    rt: &(impl Print + Eprint + AllocGlobal),
-    object: &Value,
-    how: How,
-) -> Result<Seen, RunError> {
-    let styles = styles_of(rt.alloc(), object)?;
-    let locales = locales_at(rt.alloc(), object, "locales")?;
-    let entries = entries_of(rt.alloc(), object)?;
-    answered_of(rt, object, &styles, &entries, &locales, how)
 }
 
 /// Does what is asked with the document.
@@ -461,8 +468,19 @@ pub fn answered(
     how: How,
 ) -> Result<Seen, RunError> {
     let _ = eprintln!(rt; "prepare");
-    let value = value_of(rt.alloc(), document)?;
-    answered_in(rt, top_of(rt.alloc(), &value)?, how)
+    let document = Document::parse(rt.alloc(), document.as_bytes())?;
+    let found = found_styles(rt.alloc(), &document.styles, &document.job)?;
+    let files = TermTables::new(rt.alloc(), &document.locales)?;
+    let targets = Targets {
+        styles: &found,
+        entries: &document.entries,
+        files: &files,
+    };
+    let asking = Asking {
+        document: &document,
+        targets,
+    };
+    answered_over(rt, asking, how)
 }
 
 /// Answers the document by `run`, into memory that is there.

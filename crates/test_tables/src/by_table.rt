@@ -3,29 +3,27 @@
 //! each thing is taken out of the table, one at a time, and exactly that has to be missing; and a
 //! source that has what is in the table is asked for what an empty one lacks.
 
-use crate::costs::{Answer, Costs, finished_with, in_csl, in_rounds, is_same};
+use crate::costs::{Answer, Costs, Driver, finished_with, in_csl, in_rounds, is_same};
 use crate::filling::fill_from;
 use crate::hosting::host_styles;
 use crate::printing::print_answer;
 use crate::recording::Recorder;
 use crate::seen::Seen;
 use crate::taking::take_each_out;
+use cite_document::document::Document;
 use cite_document::error::RunError;
-use cite_document::filling::{bibliography_request, filled_driver};
+use cite_document::filling::{bibliography_order, bibliography_request, filled_driver};
 use csl_base::entry::PlainEntry;
-use csl_base::locale::Locale;
 use csl_driver::error::DriverError;
 use csl_driver::terms::TermTables;
 use csl_writing::layout_writer::LayoutWriter;
 use host_driver::drive::{Driven, drive, drive_csl};
 use host_table::table::Table;
-use json_document::document::{Job, job_in, top_of, value_of};
-use json_document::entries::entries_of;
+use json_document::document::Job;
 use json_document::finders::found_styles;
+use json_document::requests::Targets;
 use json_document::rounds::Rounds;
-use json_styles::locales::locales_at;
-use json_styles::styles::{NamedStyle, styles_of};
-use serde_json::Value;
+use json_styles::styles::NamedStyle;
 use std::alloc::Global;
 
 /// What is done with the document.
@@ -41,64 +39,46 @@ pub enum TableWay {
     Filled(usize),
 }
 
-/// What a document asks for, with the tables of its locales.
+/// What a document asks for, with what its indexes point to.
 #[derive(Clone, Copy)]
 pub struct Asking<'a, 'e> {
     pub alloc: Global,
-    pub job: &'a Job<'e>,
-    pub files: &'a TermTables<'e>,
+    pub job: &'a Job,
+    pub targets: Targets<'a, 'e>,
 }
 
 /// What is read of a document once.
 #[derive(Clone, Copy)]
 struct Parts<'d> {
-    object: &'d Value,
-    /// As the document has them.
-    styles: &'d [NamedStyle],
-    /// With names in place of layouts.
+    document: &'d Document,
+    /// Its styles, with names in place of layouts.
     hosts: &'d [NamedStyle],
-    entries: &'d [PlainEntry],
-    locales: &'d [Locale],
+}
+
+impl<'a, 'e: 'a> Asking<'a, 'e> {
+    /// The driver that has taken the requests.
+    pub fn driver(&self) -> Result<Driver<'a>, RunError> {
+        filled_driver(self.alloc, &self.job.requests, self.targets, self.job.offset)
+    }
+
+    /// The order of the bibliography.
+    pub fn order(&self) -> Result<Option<Vec<&'a PlainEntry>>, RunError> {
+        bibliography_order(self.alloc, &self.job.wanted, self.targets.entries)
+    }
 }
 
 /// Does it with the document.
 pub fn by_table(
     rt: &(impl Print + Eprint + AllocGlobal),
-    document: &str,
+    text: &str,
     way: TableWay,
 ) -> Result<Seen, RunError> {
     let _ = eprintln!(rt; "prepare");
-    let value = value_of(rt.alloc(), document)?;
-    answered_in(rt, top_of(rt.alloc(), &value)?, way)
-}
-
-fn answered_in(
-    rt: &(impl Print + Eprint + AllocGlobal),
-    object: &Value,
-    way: TableWay,
-) -> Result<Seen, RunError> {
-    let styles = styles_of(rt.alloc(), object)?;
-    let entries = entries_of(rt.alloc(), object)?;
-    let locales = locales_at(rt.alloc(), object, "locales")?;
-    with_hosts(rt, object, &styles, &entries, &locales, way)
-}
-
-/// Does it with the styles of a host too.
-fn with_hosts(
-    rt: &(impl Print + Eprint + AllocGlobal),
-    object: &Value,
-    styles: &[NamedStyle],
-    entries: &[PlainEntry],
-    locales: &[Locale],
-    way: TableWay,
-) -> Result<Seen, RunError> {
-    let hosts = host_styles(rt.alloc(), object)?;
+    let document = Document::parse(rt.alloc(), text.as_bytes())?;
+    let hosts = host_styles(rt.alloc(), text)?;
     let parts = Parts {
-        object,
-        styles,
+        document: &document,
         hosts: &hosts,
-        entries,
-        locales,
     };
     by_layouts(rt, &parts, way)
 }
@@ -109,19 +89,17 @@ fn by_layouts(
     parts: &Parts<'_>,
     way: TableWay,
 ) -> Result<Seen, RunError> {
-    let found = found_styles(rt.alloc(), parts.styles, parts.object)?;
-    let job = job_in(
-        rt.alloc(),
-        &found,
-        parts.entries,
-        parts.locales,
-        parts.object,
-    )?;
-    let files = TermTables::new(rt.alloc(), job.locales)?;
+    let document = parts.document;
+    let found = found_styles(rt.alloc(), &document.styles, &document.job)?;
+    let files = TermTables::new(rt.alloc(), &document.locales)?;
     let asking = Asking {
         alloc: rt.alloc(),
-        job: &job,
-        files: &files,
+        job: &document.job,
+        targets: Targets {
+            styles: &found,
+            entries: &document.entries,
+            files: &files,
+        },
     };
     match way {
         TableWay::Finished(times) => finish_often(&asking, times),
@@ -140,8 +118,9 @@ fn finish_often(asking: &Asking<'_, '_>, times: usize) -> Result<Seen, RunError>
 /// Answers it by the layouts, and keeps nothing of that.
 fn finished(asking: &Asking<'_, '_>) -> Result<(), RunError> {
     let job = asking.job;
-    let driver = filled_driver(asking.alloc, &job.requests, asking.files, job.offset)?;
-    let request = bibliography_request(asking.alloc, job, asking.files)?;
+    let driver = asking.driver()?;
+    let order = asking.order()?;
+    let request = bibliography_request(asking.alloc, &job.wanted, &order, asking.targets)?;
     match finished_with(driver, request, job.rounds, &mut LayoutWriter::new()) {
         Ok(_) => Ok(()),
         Err(error) => Err(DriverError::from(error).into()),
@@ -154,8 +133,9 @@ fn recorded_by<'a>(
     recorder: &mut Recorder<'_>,
 ) -> Result<Answer<'a>, RunError> {
     let job = asking.job;
-    let driver = filled_driver(asking.alloc, &job.requests, asking.files, job.offset)?;
-    let request = bibliography_request(asking.alloc, job, asking.files)?;
+    let driver = asking.driver()?;
+    let order = asking.order()?;
+    let request = bibliography_request(asking.alloc, &job.wanted, &order, asking.targets)?;
     match finished_with(driver, request, job.rounds, recorder) {
         Ok(answer) => Ok(answer),
         Err(error) => Err(DriverError::from(error).into()),
@@ -170,7 +150,7 @@ fn recorded(
     way: TableWay,
 ) -> Result<Seen, RunError> {
     let _ = eprintln!(rt; "finish_with");
-    let mut recorder = Recorder::new(rt.alloc(), parts.styles);
+    let mut recorder = Recorder::new(rt.alloc(), &parts.document.styles);
     let answer = recorded_by(asking, &mut recorder)?;
     by_hosts(rt, parts, &answer, &mut recorder.table, way)
 }
@@ -184,19 +164,17 @@ fn by_hosts(
     way: TableWay,
 ) -> Result<Seen, RunError> {
     let _ = eprintln!(rt; "prepare");
-    let found = found_styles(rt.alloc(), parts.hosts, parts.object)?;
-    let job = job_in(
-        rt.alloc(),
-        &found,
-        parts.entries,
-        parts.locales,
-        parts.object,
-    )?;
-    let files = TermTables::new(rt.alloc(), job.locales)?;
+    let document = parts.document;
+    let found = found_styles(rt.alloc(), parts.hosts, &document.job)?;
+    let files = TermTables::new(rt.alloc(), &document.locales)?;
     let asking = Asking {
         alloc: rt.alloc(),
-        job: &job,
-        files: &files,
+        job: &document.job,
+        targets: Targets {
+            styles: &found,
+            entries: &document.entries,
+            files: &files,
+        },
     };
     from_table(rt, &asking, answer, table, way)
 }
@@ -250,8 +228,9 @@ fn fill_often(
 /// What comes of the table.
 pub fn driven<'a>(asking: &Asking<'a, '_>, table: &Table) -> Result<Driven<Costs<'a>>, RunError> {
     let job = asking.job;
-    let driver = filled_driver(asking.alloc, &job.requests, asking.files, job.offset)?;
-    let request = bibliography_request(asking.alloc, job, asking.files)?;
+    let driver = asking.driver()?;
+    let order = asking.order()?;
+    let request = bibliography_request(asking.alloc, &job.wanted, &order, asking.targets)?;
     match job.rounds {
         Rounds::Mode(mode) => {
             let driven = drive(asking.alloc, driver, request, mode, table)?;
