@@ -12,8 +12,8 @@ use Rattle.json_values.specs.Words.{items_of_key, optional_items}
 
 -- something of what is there is there
 pub some-then : {A B : Type 0} (g : A → B) (o : Option A) → IsSome o → IsSome (option_and_then (λ x. Some (g x)) o)
-some-then g None h = absurd h
-some-then g (Some x) h = tt
+some-then g None h = cc
+some-then g (Some x) h = refl
 
 module _ (v o : Data) (styles : List NamedStyle) (locales : List LocaleValue) (entries : List PlainEntry) where
   document-form : top_form v ≡ Some o → styles_form o ≡ Some styles → optional_items locale_form (codes "locales") o ≡ Some locales

@@ -1,5 +1,5 @@
 -- The forms of what is asked for say the same of whatever names and keys find: where what is found is changed, what they give is changed alike.
-use Rattle.std.proofs.Common.{◌≡◌, ℕ, List, Option, Some, None, map, codes, refl, ap, ◌∙◌}
+use Rattle.std.proofs.Common.{◌≡◌, ℕ, List, [], ◌∷◌, Option, Some, None, map, codes, refl, ap, ◌∙◌}
 use Rattle.std.specs.Prelude.{option_map, option_and_then}
 use Rattle.std.specs.declared.convert.Infallible.{Infallible}
 use Rattle.serde_json.specs.Data.{Data, Items, no_items, item}
@@ -7,8 +7,11 @@ use Rattle.serde_json.specs.Find.{get, as_array, as_str}
 use Rattle.csl_passes.specs.Request.{RequestedCite}
 use Rattle.json_document.specs.Form.{Asked, asked_form}
 use Rattle.json_document.specs.declared.rounds.Rounds.{Rounds}
-use Rattle.json_document.specs.Requests.{RequestOf, WantedOf, item_form, request_form, wanted_form}
-use Rattle.json_values.specs.Words.{all_items, items_of_key, list_form, name_form, or_default, present, required, where_present}
+use Rattle.json_document.specs.Requests.{RequestOf, WantedOf, apart_form, item_form, locator_form, request_form, wanted_form}
+use Rattle.json_document.specs.Rounds.{rounds_form}
+use Rattle.json_values.specs.Names.{one_of}
+use Rattle.json_values.specs.Tables.{purposes}
+use Rattle.json_values.specs.Words.{all_items, flag, items_of_key, list_form, name_form, object_with, optional, or_default, present, required, where_present, whole}
 
 -- ---- steps of a form
 
@@ -62,9 +65,14 @@ module _ {E F : Type 0} (g : E → F) where
   item-natural : (rounds : Rounds) (find : List ℕ → Option E) (d : Data) → option_map cite_to (item_form find rounds d) ≡ item_form (λ k. option_map g (find k)) rounds d
   unfolding item_form
   item-natural rounds find d =
-      step cite_to _ _ _ (λ o. moved g cite_to _ _ _ _
-      (required-natural g (name_form find) (name_form (λ k. option_map g (find k))) (name-natural g find) (codes "entry") o)
-      (λ cited. step cite_to _ _ _ (λ locator. step cite_to _ _ _ (λ locale. step cite_to _ _ _ (λ hidden. step cite_to _ _ _ (λ purpose. step cite_to _ _ _ (λ apart. refl)))))))
+      step cite_to _ _ (object_with (codes "entry" ∷ codes "locator" ∷ codes "locale" ∷ codes "hidden" ∷ codes "purpose" ∷ codes "apart" ∷ []) d) (λ o.
+      moved g cite_to _ _ (required (name_form find) (codes "entry") o) _
+      (required-natural g (name_form find) (name_form (λ k. option_map g (find k))) (name-natural g find) (codes "entry") o) (λ cited.
+      step cite_to _ _ (where_present locator_form (codes "locator") o) (λ locator.
+      step cite_to _ _ (where_present as_str (codes "locale") o) (λ locale.
+      step cite_to _ _ (flag (codes "hidden") o) (λ hidden.
+      step cite_to _ _ (where_present (one_of purposes) (codes "purpose") o) (λ purpose.
+      step cite_to _ _ (where_present (apart_form rounds) (codes "apart") o) (λ apart. refl)))))))
 
   module _ {S T : Type 0} (f : S → T) where
     abbrev pub request_to : RequestOf S E → RequestOf T F
@@ -86,22 +94,31 @@ module _ {E F : Type 0} (g : E → F) where
       request-natural : (rounds : Rounds) (d : Data) → option_map request_to (request_form style entry rounds d) ≡ request_form style_to entry_to rounds d
       unfolding request_form
       request-natural rounds d =
-          step request_to _ _ _ (λ o. moved f request_to _ _ _ _ (required-natural f (name_form style) (name_form style_to) (name-natural f style) (codes "style") o)
-          (λ by. step request_to _ _ _ (λ locale. step request_to _ _ _ (λ note. moved (map cite_to) request_to _ _ _ _
+          step request_to _ _ (object_with (codes "style" ∷ codes "locale" ∷ codes "note" ∷ codes "items" ∷ []) d) (λ o.
+          moved f request_to _ _ (required (name_form style) (codes "style") o) _
+          (required-natural f (name_form style) (name_form style_to) (name-natural f style) (codes "style") o) (λ by.
+          step request_to _ _ (where_present as_str (codes "locale") o) (λ locale.
+          step request_to _ _ (where_present whole (codes "note") o) (λ note.
+          moved (map cite_to) request_to _ _ (items_of_key (item_form entry rounds) (codes "items") o) _
           (key-natural cite_to (item_form entry rounds) (item_form entry_to rounds) (item-natural rounds entry) (codes "items") o) (λ cites. refl)))))
 
       wanted-natural : (d : Data) → option_map wanted_to (wanted_form style entry d) ≡ wanted_form style_to entry_to d
       unfolding wanted_form
       wanted-natural d =
-          step wanted_to _ _ _ (λ o. moved f wanted_to _ _ _ _ (required-natural f (name_form style) (name_form style_to) (name-natural f style) (codes "style") o)
-          (λ by. step wanted_to _ _ _ (λ locale. moved (option_map (map g)) wanted_to _ _ _ _
+          step wanted_to _ _ (object_with (codes "style" ∷ codes "locale" ∷ codes "order" ∷ []) d) (λ o.
+          moved f wanted_to _ _ (required (name_form style) (codes "style") o) _
+          (required-natural f (name_form style) (name_form style_to) (name-natural f style) (codes "style") o) (λ by.
+          step wanted_to _ _ (where_present as_str (codes "locale") o) (λ locale.
+          moved (option_map (map g)) wanted_to _ _ (where_present (list_form (name_form entry)) (codes "order") o) _
           (present-natural (map g) (list_form (name_form entry)) (list_form (name_form entry_to)) (list-natural g (name_form entry) (name_form entry_to) (name-natural g entry)) (codes "order") o)
           (λ order. refl))))
 
       pub asked-natural : (o : Data) → option_map asked_to (asked_form style entry o) ≡ asked_form style_to entry_to o
       unfolding asked_form
       asked-natural o =
-          step asked_to _ _ _ (λ rounds. moved (map request_to) asked_to _ _ _ _
-          (key-natural request_to (request_form style entry rounds) (request_form style_to entry_to rounds) (request-natural rounds) (codes "requests") o)
-          (λ requests. moved wanted_to asked_to _ _ _ _ (required-natural wanted_to (wanted_form style entry) (wanted_form style_to entry_to) wanted-natural (codes "bibliography") o)
-          (λ wanted. step asked_to _ _ _ (λ offset. refl))))
+          step asked_to _ _ (rounds_form o) (λ rounds.
+          moved (map request_to) asked_to _ _ (items_of_key (request_form style entry rounds) (codes "requests") o) _
+          (key-natural request_to (request_form style entry rounds) (request_form style_to entry_to rounds) (request-natural rounds) (codes "requests") o) (λ requests.
+          moved wanted_to asked_to _ _ (required (wanted_form style entry) (codes "bibliography") o) _
+          (required-natural wanted_to (wanted_form style entry) (wanted_form style_to entry_to) wanted-natural (codes "bibliography") o) (λ wanted.
+          step asked_to _ _ (optional 0 whole (codes "offset") o) (λ offset. refl))))

@@ -48,11 +48,11 @@ module _ {E F S T : Type 0} (entry : E → Option F) (style : S → Option T) wh
 
 -- ---- all of it is there
 
-module _ {F T : Type 0} where
-  order-there : (order : Option (List F)) → order_at it (option_map (map Some) order) ≡ Some order
-  order-there None = refl
-  order-there (Some xs) = ap (option_and_then (λ ys. Some (Some ys))) (each-there Some it (λ x. refl) xs)
+order-there : {F : Type 0} (order : Option (List F)) → order_at it (option_map (map Some) order) ≡ Some order
+order-there None = refl
+order-there (Some xs) = ap (option_and_then (λ ys. Some (Some ys))) (each-there Some it (λ x. refl) xs)
 
+module _ {F T : Type 0} where
   request-there : (r : RequestOf T F) → request_at it it (request_to Some Some r) ≡ Some r
   request-there r =
       ap (option_and_then (λ cites. Some (record { style = r.style; locale = r.locale; note_number = r.note_number; cites = cites })))
@@ -83,7 +83,7 @@ module _ {X S E : Type 0} (view : X → Asked ℕ ℕ) (styles : List S) (entrie
   read-all x None e = cc
   read-all x (Some a) e =
       let same : asked_to (slice_get entries) (slice_get styles) (view x) ≡ asked_to Some Some a = cc in
-      (tt, asked-same (slice_get entries) (slice_get styles) (view x) ∙ ap (asked_at it it) same ∙ asked-there a)
+      (refl, asked-same (slice_get entries) (slice_get styles) (view x) ∙ ap (asked_at it it) same ∙ asked-there a)
 
   none-read : (read : Option (Asked S E)) → None ≡ option_map (asked_to {E = E} Some {S = S} Some) read → read ≡ None
   none-read None e = refl
