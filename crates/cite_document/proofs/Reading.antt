@@ -10,6 +10,10 @@ use Rattle.json_styles.specs.Locales.{locale_form}
 use Rattle.json_styles.specs.Styles.{NamedStyle, style_named, styles_form}
 use Rattle.json_values.specs.Words.{items_of_key, optional_items}
 
+-- what comes of what is there
+then-some : {A B : Type 0} (f : A → Option B) (o : Option A) (x : A) → o ≡ Some x → option_and_then f o ≡ f x
+then-some f o x e = ap (option_and_then f) e
+
 -- something of what is there is there
 pub some-then : {A B : Type 0} (g : A → B) (o : Option A) → IsSome o → IsSome (option_and_then (λ x. Some (g x)) o)
 some-then g None h = cc
@@ -20,7 +24,8 @@ module _ (v o : Data) (styles : List NamedStyle) (locales : List LocaleValue) (e
       → items_of_key entry_form (codes "entries") o ≡ Some entries
       → document_form v ≡ option_and_then (λ a. Some (document_of locales a)) (asked_form (style_named styles) (entry_named entries) o)
   unfolding document_form
-  document-form t s l e = rw (t, s, l, e) refl
+  document-form t s l e = then-some _ (top_form v) o t ∙ then-some _ (styles_form o) styles s
+      ∙ then-some _ (optional_items locale_form (codes "locales") o) locales l ∙ then-some _ (items_of_key entry_form (codes "entries") o) entries e
 
   -- what is asked for makes the document
   pub document-read : top_form v ≡ Some o → styles_form o ≡ Some styles → optional_items locale_form (codes "locales") o ≡ Some locales

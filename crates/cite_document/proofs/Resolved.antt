@@ -10,9 +10,18 @@ use Rattle.json_document.specs.Form.{Asked, Document, document_of, request_with}
 use Rattle.json_document.specs.Indexes.{asked_at, each_of, order_at, request_at, wanted_at}
 use Rattle.json_document.specs.Requests.{RequestOf, WantedOf}
 use Rattle.cite_document.specs.Filled.{wanted_with}
-use Rattle.cite_document.specs.Run.{IsMissing, IsRefused, accepted, wanted_of}
+use Rattle.cite_document.specs.Run.{IsMissing, IsRefusedFor, accepted, wanted_of}
 use Rattle.cite_document.specs.declared.error.RunError.{RunError}
 use Rattle.cite_document.specs.declared.error.RunError.TheVariants as errors
+
+-- where one points to nothing nothing is read
+pub missing : {A D : Type 0} (document : D → Document) (read : Option D) (pointed : Option A) (e : RunError) → (pointed ≡ None → read ≡ None) → IsMissing pointed e
+    → IsRefusedFor document e read
+missing document read pointed errors.Document so h = so h
+missing document read pointed errors.OutOfMemory so h = tt
+missing document read pointed errors.Output so h = absurd h
+missing document read pointed (errors.MacroRing place i) so h = absurd h
+missing document read pointed errors.NumberOverflow so h = absurd h
 
 module _ (entries : List PlainEntry) (styles : List StyleValue) (locales : List LocaleValue) (a : Asked ℕ ℕ) where
   abbrev requests : Option (List (RequestOf StyleValue PlainEntry))
@@ -56,13 +65,6 @@ module _ (entries : List PlainEntry) (styles : List StyleValue) (locales : List 
       by : (o : Option StyleValue) → of_parts requests (wants o None) ≡ None
       by None = no_wanted requests
       by (Some s) = no_wanted requests
-
-  pub missing : {A : Type 0} (pointed : Option A) (e : RunError) → (pointed ≡ None → resolved ≡ None) → IsMissing pointed e → IsRefused e resolved
-  missing pointed errors.Document so h = so h
-  missing pointed errors.OutOfMemory so h = tt
-  missing pointed errors.Output so h = absurd h
-  missing pointed (errors.MacroRing place i) so h = absurd h
-  missing pointed errors.NumberOverflow so h = absurd h
 
   -- ---- all is there
 

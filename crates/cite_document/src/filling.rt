@@ -1,14 +1,12 @@
 //! The driver of a document, and what it is asked.
 ghost use Rattle.std.specs.Prelude.{◌≡◌, Some, map, option_map, slice_get, IfOk, IfErr, OnOk};
-ghost use Rattle.csl_style_values.specs.StyleView.{locale_view};
 ghost use Rattle.csl_driver.specs.Driver.{with_request};
 ghost use Rattle.csl_driver.specs.DriverView.{driver_view};
 ghost use Rattle.csl_passes.specs.RequestView.{entries_view, order_view, request_view, wanted_view};
-ghost use Rattle.csl_styles.specs.TablesView.{locales_of};
 ghost use Rattle.json_document.specs.Form.{request_with};
-ghost use Rattle.json_document.specs.FoundView.{found_views};
-ghost use Rattle.json_document.specs.Indexes.{each_of, order_at, request_at};
-ghost use Rattle.json_document.specs.JobView.{asked_bibliography_view, asked_requests_view};
+ghost use Rattle.json_document.specs.Indexes.{each_of, order_at};
+ghost use Rattle.json_document.specs.JobView.{asked_bibliography_view};
+ghost use Rattle.json_document.specs.Targets.{files_in, requests_in, style_in};
 ghost use Rattle.cite_document.specs.Run.{IsMissing, accepted};
 ghost use Rattle.cite_document.specs.Filled.{wanted_with};
 
@@ -46,14 +44,10 @@ pub fn filled_driver<'e, 'f: 'e>(
     offset: usize,
 ) -> Result<BibliographyDriver<'e, PlainEntry, Infallible>, RunError>
     ensures requests { IfOk result (λ d. option_map
-        (λ rs. accepted (map (request_with (map locale_view (locales_of targets.files.now))) rs))
-        (each_of (request_at (slice_get targets.entries.now)
-        (slice_get (found_views targets.styles.now))) (asked_requests_view requests.now))
-        ≡ Some (driver_view d).requests) }
+        (λ rs. accepted (map (request_with (files_in targets.entry)) rs))
+        (requests_in targets.entry requests.now) ≡ Some (driver_view d).requests) }
     ensures offset { IfOk result (λ d. (driver_view d).offset ≡ offset) }
-    ensures missing { IfErr result (IsMissing (each_of (request_at (slice_get targets.entries.now)
-        (slice_get (found_views targets.styles.now))) (asked_requests_view requests.now)))
-        }
+    ensures missing { IfErr result (IsMissing (requests_in targets.entry requests.now)) }
 {
     let mut driver = BibliographyDriver::new(alloc).with_citation_number_offset(offset);
     for request in requests {
@@ -126,13 +120,10 @@ pub fn bibliography_request<'o, 'e, 'f: 'e>(
     targets: Targets<'e, 'f>,
 ) -> Result<BibliographyRequest<'o, 'e, PlainEntry>, RunError>
     ensures wanted { IfOk result (λ request. option_map
-        (wanted_with (asked_bibliography_view wanted.now).locale
-        (map locale_view (locales_of targets.files.now))
-        (option_map (λ v. entries_view v.items) order.now))
-        (slice_get (found_views targets.styles.now) wanted.now.style)
+        (wanted_with (asked_bibliography_view wanted.now).locale (files_in targets.entry)
+        (option_map (λ v. entries_view v.items) order.now)) (style_in targets.entry wanted.now.style)
         ≡ Some (wanted_view request)) }
-    ensures missing { IfErr result
-        (IsMissing (slice_get (found_views targets.styles.now) wanted.now.style)) }
+    ensures missing { IfErr result (IsMissing (style_in targets.entry wanted.now.style)) }
 {
     let Some(found) = targets.styles.get(wanted.style) else {
         return Err(RunError::Document);

@@ -7,4 +7,5 @@ pub mod Finders
 pub mod JobView
 pub mod Form
 pub mod Indexes
+pub mod Targets
 pub mod Faults

@@ -3,13 +3,11 @@ ghost use Rattle.std.specs.Prelude.{◌≡◌, Some, codes, map, option_map, sli
 ghost use Rattle.serde_json.specs.Data.{Data, array};
 ghost use Rattle.serde_json.specs.Find.{as_str, at};
 ghost use Rattle.serde_json.specs.View.{view, items_view};
-ghost use Rattle.csl_style_values.specs.StyleView.{code_view, locale_view};
+ghost use Rattle.csl_style_values.specs.StyleView.{code_view};
 ghost use Rattle.csl_lookup.specs.PropertiesView.{locator_view};
 ghost use Rattle.csl_passes.specs.RequestView.{cite_view, cites_view, request_view};
-ghost use Rattle.csl_styles.specs.TablesView.{locales_of};
 ghost use Rattle.json_document.specs.Form.{request_with};
-ghost use Rattle.json_document.specs.FoundView.{found_views};
-ghost use Rattle.json_document.specs.Indexes.{cite_at, each_of, request_at};
+ghost use Rattle.json_document.specs.Indexes.{cite_at, each_of};
 ghost use Rattle.json_document.specs.JobView.{
   asked_bibliography_view,
   asked_cite_view,
@@ -34,6 +32,7 @@ ghost use Rattle.json_document.specs.Requests.{
   request_form,
   wanted_form,
 };
+ghost use Rattle.json_document.specs.Targets.{files_in, request_in};
 ghost use Rattle.json_values.specs.Names.{one_of};
 ghost use Rattle.json_values.specs.Tables.{locators};
 ghost use Rattle.json_values.specs.Reads.{Faults, IsErrorOf, Reads};
@@ -463,9 +462,8 @@ pub fn driver_request<'r, 'f: 'r>(
     targets: Targets<'r, 'f>,
 ) -> Result<Option<Request<'r>>, AllocError>
     ensures { IfOk result (λ made. option_map request_view made
-        ≡ option_map (request_with (map locale_view (locales_of targets.files.now)))
-        (request_at (slice_get targets.entries.now) (slice_get (found_views targets.styles.now))
-        (asked_request_view request.now))) }
+        ≡ option_map (request_with (files_in targets.entry))
+        (request_in targets.entry request.now)) }
 {
     let Targets {
         styles,

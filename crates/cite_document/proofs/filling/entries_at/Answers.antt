@@ -8,7 +8,7 @@ use Rattle.cite_document.proofs.filling.entries_at.Goals as goal
 pub loop-index-preserved : goal.loop-index-preserved
 loop-index-preserved c =
     EachProgress-pushed (λ i. i) (slice_get c.args.entries.now) (λ e. e.now) c.args.indexes.now c.loop-index.index-index _ _ _ c.in-Some.entry
-    c.loop-index-test.true ? ? c.in_ok-push.ensures.items c.loop-index.invariant
+    c.loop-index-test.true ? ? c.in_ok-push-in-Some.ensures.items c.loop-index.invariant
 
 pub returns-in-None-clause-missing : goal.returns-in-None-clause-missing
 returns-in-None-clause-missing c =
