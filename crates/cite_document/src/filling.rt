@@ -14,7 +14,9 @@ use crate::error::RunError;
 use csl_base::entry::PlainEntry;
 use csl_driver::driver::BibliographyDriver;
 use csl_driver::request::{BibliographyRequest, Order};
-use json_document::requests::{AskedRequest, Request, Targets, Wanted, copied_code, driver_request};
+use json_document::requests::{
+    AskedRequest, Request, Targets, Wanted, copied_code, driver_request,
+};
 use std::alloc::Global;
 use std::convert::Infallible;
 

@@ -50,6 +50,7 @@ module _ (v o : Data) (styles : List NamedStyle) (entries : List PlainEntry) (ta
       → written_at styles entries o ≡ Some table → (locales : List LocaleValue) → locales ≡ [] → (read : Option (Asked StyleValue PlainEntry)) → IsSome asked → read ≡ asked
       → IsSome (driven_document_form v) × (with_table table (option_and_then (λ x. Some (document_of locales x)) read) ≡ driven_document_form v)
   driven-read t s e w locales none read some is =
-      let form = driven-form t s e ∙ driven-by w in
-      (subst IsSome (sym form) (there asked some),
-      (λ i. with_table table (option_and_then (λ x. Some (document_of (none i) x)) (is i))) ∙ same asked ∙ sym form)
+      let form = driven-form t s e ∙ driven-by w in (
+        subst IsSome (sym form) (there asked some),
+        (λ i. with_table table (option_and_then (λ x. Some (document_of (none i) x)) (is i))) ∙ same asked ∙ sym form,
+      )

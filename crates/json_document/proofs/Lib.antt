@@ -6,3 +6,4 @@ pub mod Items
 pub mod Natural
 pub mod Pointed
 pub mod EachOf
+pub mod Got

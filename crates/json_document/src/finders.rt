@@ -17,10 +17,7 @@ use std::collections::HashMap;
 pub type Indexes<'e> = HashMap<&'e str, usize>;
 
 /// The indexes of styles by their names. A name finds the first style that has it.
-pub fn style_indexes<'e>(
-    alloc: Global,
-    styles: &'e [NamedStyle],
-) -> Result<Indexes<'e>, AllocError>
+pub fn style_indexes<'e>(alloc: Global, styles: &'e [NamedStyle]) -> Result<Indexes<'e>, AllocError>
     ensures { IfOk result (λ m. (name : List ℕ) → found_by m (unnamed styles.now) name
         ≡ option_map Some (style_named (named_styles_view styles.now) name)) }
 {

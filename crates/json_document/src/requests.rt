@@ -99,11 +99,7 @@ pub struct AskedRequest {
 // ---- cites
 
 /// The index of the entry whose key the value is.
-fn known_entry(
-    alloc: Global,
-    entries: &Indexes<'_>,
-    value: &Value,
-) -> Result<usize, ReadError>
+fn known_entry(alloc: Global, entries: &Indexes<'_>, value: &Value) -> Result<usize, ReadError>
     ensures read { Reads (λ i. i) result (name_form (text_in entries.now) (view value.now)) }
     ensures fault { Faults result (view value.now) }
 {
@@ -117,11 +113,7 @@ fn known_entry(
 }
 
 #[tactic(auto, using(json_values::proofs::Ways::fails_outside))]
-fn required_entry(
-    alloc: Global,
-    entries: &Indexes<'_>,
-    value: &Value,
-) -> Result<usize, ReadError>
+fn required_entry(alloc: Global, entries: &Indexes<'_>, value: &Value) -> Result<usize, ReadError>
     ensures read { Reads (λ i. i) result
         (required (name_form (text_in entries.now)) (codes "entry") (view value.now)) }
     ensures fault { Faults result (view value.now) }
@@ -295,11 +287,7 @@ fn unknown_style(alloc: Global, value: &Value) -> ReadError
 }
 
 /// The index of the style whose name is under the key `style`, which has to be there.
-fn required_style(
-    alloc: Global,
-    styles: &Indexes<'_>,
-    value: &Value,
-) -> Result<usize, ReadError>
+fn required_style(alloc: Global, styles: &Indexes<'_>, value: &Value) -> Result<usize, ReadError>
     ensures read { Reads (λ i. i) result
         (required (name_form (text_in styles.now)) (codes "style") (view value.now)) }
     ensures fault { Faults result (view value.now) }
@@ -482,13 +470,7 @@ pub fn driver_request<'r, 'f: 'r>(
         Some(prepared) => Ok(Some(CitationRequest::of_prepared(
             items, prepared, locale, files, note,
         ))),
-        None => Ok(Some(CitationRequest::new(
-            items,
-            found.style,
-            locale,
-            files.locales(),
-            note,
-        ))),
+        None => Ok(Some(CitationRequest::new(items, found.style, locale, files.locales(), note))),
     }
 }
 
@@ -506,11 +488,7 @@ pub struct Wanted {
 }
 
 #[tactic(auto, using(json_values::proofs::Ways::item_there))]
-fn all_keyed(
-    alloc: Global,
-    entries: &Indexes<'_>,
-    items: &[Value],
-) -> Result<Vec<usize>, ReadError>
+fn all_keyed(alloc: Global, entries: &Indexes<'_>, items: &[Value]) -> Result<Vec<usize>, ReadError>
     ensures read { Reads (λ v. v.items) result
         (all_items (name_form (text_in entries.now)) (items_view items.now)) }
     ensures fault { Faults result (array (items_view items.now)) }
@@ -525,11 +503,7 @@ fn all_keyed(
     Ok(found)
 }
 
-fn order_of(
-    alloc: Global,
-    entries: &Indexes<'_>,
-    value: &Value,
-) -> Result<Vec<usize>, ReadError>
+fn order_of(alloc: Global, entries: &Indexes<'_>, value: &Value) -> Result<Vec<usize>, ReadError>
     ensures read { Reads (λ v. v.items) result
         (list_form (name_form (text_in entries.now)) (view value.now)) }
     ensures fault { Faults result (view value.now) }

@@ -182,12 +182,7 @@ fn bibliography_request<'o, 'e, 'f: 'e>(
         Some(prepared) if is_prepared => Ok(BibliographyRequest::of_prepared(
             prepared, locale, files, order,
         )),
-        _ => Ok(BibliographyRequest::ordered(
-            found.style,
-            locale,
-            files.locales(),
-            order,
-        )),
+        _ => Ok(BibliographyRequest::ordered(found.style, locale, files.locales(), order)),
     }
 }
 

@@ -58,7 +58,12 @@ struct Parts<'d> {
 impl<'a, 'e: 'a> Asking<'a, 'e> {
     /// The driver that has taken the requests.
     pub fn driver(&self) -> Result<Driver<'a>, RunError> {
-        filled_driver(self.alloc, &self.job.requests, self.targets, self.job.offset)
+        filled_driver(
+            self.alloc,
+            &self.job.requests,
+            self.targets,
+            self.job.offset,
+        )
     }
 
     /// The order of the bibliography.

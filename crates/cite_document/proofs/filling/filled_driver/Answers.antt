@@ -13,9 +13,9 @@ loop-request-preserved c =
     let request = request_at (slice_get c.args.targets.entries.now) (style_in c.args.targets) in
     record {
       handed = EachProgress-more asked_request_view (taken locales request) c.args.requests.now c.loop-request.request-index _ _ c.request-item.result _
-        c.loop-request-test.true c.request-item.is
-        (request-taken locales request (asked_request_view c.request-item.result) _ (rw c.in-Some.is at c.in_ok-driver_request.ensures))
-        (ap (λ d. d.requests) c.in_ok-take-in-Some.ensures.taken) c.loop-request.invariant.handed;
+          c.loop-request-test.true c.request-item.is
+          (request-taken locales request (asked_request_view c.request-item.result) _ (rw c.in-Some.is at c.in_ok-driver_request.ensures))
+          (ap (λ d. d.requests) c.in_ok-take-in-Some.ensures.taken) c.loop-request.invariant.handed;
       same_offset = ap (λ d. d.offset) c.in_ok-take-in-Some.ensures.taken ∙ c.loop-request.invariant.same_offset;
     }
 

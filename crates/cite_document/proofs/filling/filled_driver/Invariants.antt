@@ -12,6 +12,6 @@ abbrev pub invariant-loop-request : goal.invariant-loop-request
 invariant-loop-request l =
     record {
       handed : EachProgress asked_request_view (taken (files_in l.targets) (request_at (slice_get l.targets.entries.now) (style_in l.targets)))
-        l.requests l.request-index (driver_view l.driver).requests;
+          l.requests l.request-index (driver_view l.driver).requests;
       same_offset : (driver_view l.driver).offset ≡ l.offset;
     }

@@ -17,6 +17,6 @@ returns c =
     let v = driver_view c.in_ok-driver.driver in
     let w = wanted_view c.in_ok-request.request in
     let asks = asks-for d.entries.items (unnamed d.styles.items) (map locale_view d.locales.items) (asked_view d.job) v w
-        (option_map (λ o. entries_view o.items) c.in_ok-order.order) ? c.in_ok-driver.ensures.offset ? ? in
+    (option_map (λ o. entries_view o.items) c.in_ok-order.order) ? c.in_ok-driver.ensures.offset ? ? in
     let a = has_answer v w asks.document asks.made asks.wanted c.in_ok-rendered.ensures.possible in
     (asks.document, asks.is, (a, is_answer v w asks.document asks.made asks.wanted d.job.rounds c.in_ok-rendered.rendered asks.rounds c.in_ok-rendered.ensures.answer))

@@ -24,9 +24,11 @@ returns c =
     let v = driver_view c.in_ok-driver.driver in
     let w = wanted_view c.in_ok-request.request in
     let asks = asks-for d.entries.items (unnamed d.styles.items) (map locale_view d.locales.items) (asked_view d.job) v w
-        (option_map (λ o. entries_view o.items) c.in_ok-order.order) ? c.in_ok-driver.ensures.offset ? ? in
+    (option_map (λ o. entries_view o.items) c.in_ok-order.order) ? c.in_ok-driver.ensures.offset ? ? in
     let text = string_bytes c.in_ok-text.text in
-    let x : DrivenDocument = record { document = asks.document; table = table } in
-    (x, ap (with_table table) asks.is,
-    subst (λ r. TellsIn r table (document_job asks.document) text) asks.rounds
-    (comes v w asks.document asks.made asks.wanted table d.job.rounds text c.in_ok-text.ensures.told))
+    let x : DrivenDocument = record { document = asks.document; table = table } in (
+      x,
+      ap (with_table table) asks.is,
+      subst (λ r. TellsIn r table (document_job asks.document) text) asks.rounds
+          (comes v w asks.document asks.made asks.wanted table d.job.rounds text c.in_ok-text.ensures.told),
+    )
