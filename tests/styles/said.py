@@ -160,7 +160,7 @@ def say_date_parts(date, depth, lines):
 
 
 def say_names(element, depth, lines):
-    variables = [' variable=' + it for it in element.get('variable').split()]
+    variables = [' variable=' + it for it in element.get('variable', '').split()]
     lines.add(depth, 'names', variables + values(element, ['delimiter!', 'display']) + appearance(element))
     name, et_al, label = (only(element, it) for it in ('name', 'et-al', 'label'))
     if name is not None:
