@@ -62,9 +62,9 @@ module _ {E P : Type 0} (eq : E → E → Bool) (job : Job E P) where
 
   -- what an answer cost
   pub record HasCosts (account : CslAccount E) : Type 0 where
-    -- the renderings: those of mentions; one for each cite, hidden or not; and one for each entry of
-    -- the bibliography, where there is one. The count stands still at the greatest number of 128
-    -- bits
+    -- the renderings: those of mentions; one for each cite, hidden or not; and one for each entry
+    -- of the bibliography, where there is one. The count stands still at the greatest number of
+    -- 128 bits
     pub renders : account.renders ≡ min (mention_count account
         + length (cites_of job.requests)
         + where_listed job.wanted.style.bibliography (length (entries_had account)))

@@ -59,7 +59,8 @@ pub fn positions_of<L: PartialEq>(
     alloc: Global,
     requests: &[PlacedRequest<L>],
 ) -> Result<Vec<Vec<Position>>, AllocError>
-    ensures { IfOk result (λ v. map (λ p. p.items) v.items ≡ positions L.eq (requests_view requests.now)) }
+    ensures { IfOk result (λ v. map (λ p. p.items) v.items
+        ≡ positions L.eq (requests_view requests.now)) }
 {
     let noted = entries_of_notes(alloc, requests)?;
     let mut found = Vec::with_capacity(alloc, requests.len())?;

@@ -14,7 +14,8 @@ use Rattle.csl_told_cites.specs.declared.mentions.ToldMention.{ToldMention}
 abbrev pub index_at : Listed → ℕ → ℕ
 index_at l p = unwrap_or (slice_get l.numbers p) (length l.order)
 
-module _ {E P : Type 0} (mentions : List ToldMention) (suffixes : List (Option ℕ)) (l : Listed) where
+module _ {E P : Type 0} (mentions : List ToldMention) (suffixes : List (Option ℕ))
+    (l : Listed) where
   -- the cites of a request, whose entries are at these places
   abbrev pub plain_cites_at : List (RequestedCite E P) → List ℕ → List CiteNotes
       → List (PlainCite (LocatorValue P))

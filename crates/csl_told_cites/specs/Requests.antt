@@ -56,7 +56,8 @@ module _ {E P : Type 0} where
 
     module _ (eq : E → E → Bool) (listed : List E) where
       -- a request whose cites are of the entries of a bibliography
-      abbrev pub plain_request : Request E P → List CiteNotes → Arranged (PlainCite (LocatorValue P))
+      abbrev pub plain_request : Request E P → List CiteNotes
+          → Arranged (PlainCite (LocatorValue P))
       plain_request r notes = record {
         facts = request_facts r;
         cites = map (λ p. plain_cite (place eq p.0.entry listed) p.0 p.1) (zip r.cites notes);

@@ -15,7 +15,7 @@ use Rattle.csl_told_laws.specs.SuffixLaws.{NothingIsLeft, SuffixesCount}
 abbrev pub one_if_any : {X : Type 0} → (X → Bool) → List X → ℕ
 one_if_any p xs = if list_any p xs then 1 else 0
 
--- some state has names
+-- a state has names
 abbrev pub has_names : MentionState → Bool
 has_names state = is_some state.names
 

@@ -31,7 +31,8 @@ impl ElemChildren {
     /// `find_names` gives next, if its meta is still Names (`first_names_laws`).
     pub fn find_names_mut(&mut self) -> Option<&mut Elem>
         ensures* writes_back { sem 𝓛
-            (LendsIf children_.the_row elem_.the_row self.entry result (put_names self.old) self.old) }
+            (LendsIf children_.the_row elem_.the_row self.entry result
+            (put_names self.old) self.old) }
         ensures value { option_map (λ e. e.now) result ≡ find_elem has_names self.old }
     {
         find_names_mut(self)
@@ -98,7 +99,8 @@ fn holder_mut(tree: &mut ElemChildren) -> &mut ElemChild
 
 fn holder_elem_mut(tree: &mut ElemChildren) -> Option<&mut Elem>
     ensures* writes_back { sem 𝓛
-        (LendsIf children_.the_row elem_.the_row tree.entry result (put_holder_elem tree.old) tree.old) }
+        (LendsIf children_.the_row elem_.the_row tree.entry result
+        (put_holder_elem tree.old) tree.old) }
     ensures value { option_map (λ e. e.now) result ≡ holder_elem tree.old }
 {
     let n = holder_index(tree);

@@ -52,7 +52,8 @@ pub fn last_text_laws()
 // of their own, so that their proofs are found.
 fn last_text_mut(tree: &mut ElemChildren) -> Option<&mut Formatted>
     ensures* writes_back { sem 𝓛
-        (LendsIf children_.the_row formatted_.the_row tree.entry result (put_last_text tree.old) tree.old) }
+        (LendsIf children_.the_row formatted_.the_row tree.entry result
+        (put_last_text tree.old) tree.old) }
     ensures value { option_map (λ f. f.now) result ≡ last_text tree.old }
 {
     if ends_in_elem(tree) {
@@ -84,7 +85,8 @@ fn last_child_mut(tree: &mut ElemChildren) -> &mut ElemChild
 
 fn text_at_end(tree: &mut ElemChildren) -> Option<&mut Formatted>
     ensures* writes_back { sem 𝓛
-        (LendsIf children_.the_row formatted_.the_row tree.entry result (put_end_text tree.old) tree.old) }
+        (LendsIf children_.the_row formatted_.the_row tree.entry result
+        (put_end_text tree.old) tree.old) }
     ensures value { option_map (λ f. f.now) result ≡ end_text tree.old }
 {
     let len = tree.0.len();
@@ -121,7 +123,8 @@ impl ElemChild {
 
     fn text_mut(&mut self) -> Option<&mut Formatted>
         ensures* writes_back { sem 𝓛
-            (LendsIf child_.the_row formatted_.the_row self.entry result (with_text self.old) self.old) }
+            (LendsIf child_.the_row formatted_.the_row self.entry result
+            (with_text self.old) self.old) }
         ensures value { option_map (λ f. f.now) result ≡ own_text (child_view self.old) }
     {
         match self {

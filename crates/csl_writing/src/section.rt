@@ -24,7 +24,7 @@ use csl_picking::picking::pick_layout;
 use std::alloc::{AllocError, Global};
 
 // For how many pieces there is memory at first: those of two names and a year in a group.
-const ROOM: usize = 16;
+const FIRST_CAPACITY: usize = 16;
 
 /// What is picked, and the formatting in which it is written.
 #[derive(Drop)]
@@ -84,7 +84,7 @@ fn pick_section<'a, T: EntryLike>(
         (macros_in input.now.setting) (elements_view elements.now) notes)) }
 {
     let mut picking = Picking {
-        pieces: Vec::with_capacity(alloc, ROOM)?,
+        pieces: Vec::with_capacity(alloc, FIRST_CAPACITY)?,
         called: Called::None,
         notes,
     };

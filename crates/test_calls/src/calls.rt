@@ -32,7 +32,7 @@ use std::alloc::{AllocError, Global};
 use std::convert::Infallible;
 
 /// How many bytes the text of a document takes at most that is written into memory.
-const ROOM: usize = 65_536;
+const CAPACITY: usize = 65_536;
 
 /// By which calls a document is answered.
 #[derive(Clone, Copy)]
@@ -491,7 +491,7 @@ pub fn written_out(
     document: &str,
 ) -> Result<Seen, RunError> {
     let _ = eprintln!(rt; "prepare");
-    let mut out: Vec<u8> = Vec::with_capacity(rt.alloc(), ROOM)?;
+    let mut out: Vec<u8> = Vec::with_capacity(rt.alloc(), CAPACITY)?;
     written_into(rt, document, &mut out)
 }
 

@@ -66,15 +66,14 @@ fn written_alone(
     cite
 }
 
-/// A cite of the item's entry.
+/// A cite of the item's entry, in this style.
 fn written<'e>(
     alloc: Global,
-    context: &StyleContext<'_>,
+    style: &IndependentStyle,
     item: &Item<'e>,
-) -> Result<Cite<'e>, AllocError>
-    requires no_ring { HasNoRing (context_source context.now).style.macros }
-{
-    let cite = written_alone(alloc, context, item.entry)?;
+) -> Result<Cite<'e>, RunError> {
+    let context = ringless(alloc, style)?;
+    let cite = written_alone(alloc, &context, item.entry)?;
     Ok(SpeculativeItemRender {
         rendered: cite.children,
         entry: item.entry,
@@ -94,10 +93,9 @@ fn written<'e>(
 
 /// The cites of a request.
 fn written_of<'r, 'e>(alloc: Global, request: &'r Request<'e>) -> Result<Cites<'r, 'e>, RunError> {
-    let context = ringless(alloc, request.style())?;
     let mut items = Vec::new(alloc);
     for item in &request.items {
-        items.push(written(alloc, &context, item)?)?;
+        items.push(written(alloc, request.style(), item)?)?;
     }
     Ok(SpeculativeCiteRender { items, request })
 }
@@ -241,15 +239,14 @@ fn group_one(
     Ok(true)
 }
 
-/// The item of a bibliography for this cite, if it has content, with its key.
+/// The item of this style's bibliography for this cite, if it has content, with its key.
 fn item_of(
     alloc: Global,
-    context: &StyleContext<'_>,
+    style: &IndependentStyle,
     item: &Item<'_>,
     counter: &mut Renders,
-) -> Result<Option<(ElemChildren, String)>, AllocError>
-    requires no_ring { HasNoRing (context_source context.now).style.macros }
-{
+) -> Result<Option<(ElemChildren, String)>, RunError> {
+    let context = ringless(alloc, style)?;
     let properties: CiteProperties<'_, Infallible> = CiteProperties::for_sorting(None, 0);
     let tree = context.bibliography(alloc, item.entry, &properties, None, None, counter);
     drop(properties);
@@ -261,11 +258,10 @@ fn item_of(
 
 /// The items of a bibliography.
 fn items_of(alloc: Global, request: &Request<'_>) -> Result<Vec<(ElemChildren, String)>, RunError> {
-    let context = ringless(alloc, request.style())?;
     let mut counter = Renders::new();
     let mut items = Vec::new(alloc);
     for item in &request.items {
-        if let Some(found) = item_of(alloc, &context, item, &mut counter)? {
+        if let Some(found) = item_of(alloc, request.style(), item, &mut counter)? {
             items.push(found)?;
         }
     }

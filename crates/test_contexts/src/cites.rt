@@ -84,23 +84,7 @@ fn print_names(
     Ok(())
 }
 
-/// Prints a cite of the entry, its names once more, and its date.
-fn print_entry(
-    rt: &(impl Print + Eprint + AllocGlobal),
-    context: &StyleContext<'_>,
-    entry: &PlainEntry,
-) -> Result<(), AllocError>
-    requires { HasNoRing (context_source context.now).style.macros }
-{
-    let cite = citation(rt, context, entry)?;
-    let _ = println!(rt; "cite: {cite}");
-    print_names(rt, &cite)?;
-    let date = date(rt, context, entry)?;
-    let _ = println!(rt; "date: {date}");
-    Ok(())
-}
-
-/// Prints this of each entry, in this style.
+/// Prints a cite of each entry in this style, its names once more, and its date.
 pub fn print_cites(
     rt: &(impl Print + Eprint + AllocGlobal),
     style: &IndependentStyle,
@@ -109,7 +93,11 @@ pub fn print_cites(
 ) -> Result<(), Ended> {
     let context = ringless(rt.alloc(), style, files)?;
     for entry in entries {
-        print_entry(rt, &context, entry)?;
+        let cite = citation(rt, &context, entry)?;
+        let _ = println!(rt; "cite: {cite}");
+        print_names(rt, &cite)?;
+        let date = date(rt, &context, entry)?;
+        let _ = println!(rt; "date: {date}");
     }
     Ok(())
 }
