@@ -1,10 +1,11 @@
 //! Cites of which the same is written: that is done once.
 use crate::writer::{Asked, TaskWriter};
+use cite_trees::trees::shown_of;
 use cite_walk::cite::Repetition;
 use csl_lookup::means::Means;
 use csl_lookup::state::CollapseVerdict;
 use csl_writers::cite::Cite;
-use std::alloc::AllocError;
+use std::alloc::{AllocError, Global};
 use style_file::style::StyleClass;
 
 /// All that the text of a cite depends on that has no locator, and stands apart from none.
@@ -73,16 +74,31 @@ impl<'s, 'i, 'd> TaskWriter<'s, 'i, 'd> {
         }
     }
 
-    /// What was written of an equal cite.
-    pub(crate) fn known(&self, plain: &PlainCite) -> Result<Option<Cite>, AllocError> {
+    /// What was written of an equal cite, or what of that is shown.
+    pub(crate) fn known(
+        &self,
+        plain: &PlainCite,
+        is_shown: bool,
+    ) -> Result<Option<Cite>, AllocError> {
         let Some(place) = self.plain_cites.get(plain) else {
             return Ok(None);
         };
         match self.table.get_index(*place) {
-            Some((_, cite)) => Ok(Some(copied(cite)?)),
-            None => Ok(None),
+            Some((_, cite)) if is_shown => Ok(Some(shown(self.alloc, cite)?)),
+            Some((key, cite)) if key.place.is_none() => Ok(Some(copied(cite)?)),
+            _ => Ok(None),
         }
     }
+}
+
+/// What of a cite is shown.
+fn shown(alloc: Global, cite: &Cite) -> Result<Cite, AllocError> {
+    Ok(Cite {
+        children: shown_of(alloc, &cite.children)?,
+        checked_disambiguate: cite.checked_disambiguate,
+        first_name: None,
+        identifier_usage: cite.identifier_usage,
+    })
 }
 
 /// A copy of a cite.

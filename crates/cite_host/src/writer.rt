@@ -89,7 +89,7 @@ impl<'s, 'i, 'd> TaskWriter<'s, 'i, 'd> {
         let Some(plain) = self.plain_cite(asked)? else {
             return self.write_anew(asked);
         };
-        if let Some(cite) = self.known(&plain)? {
+        if let Some(cite) = self.known(&plain, asked.shown.is_some())? {
             return Ok(cite);
         }
         let cite = self.write_anew(asked)?;
@@ -107,6 +107,9 @@ impl<'s, 'i, 'd> TaskWriter<'s, 'i, 'd> {
         let pieces = replace(&mut cite.pieces, Pieces::new(self.alloc));
         let pieces = for_purpose(self.alloc, asked.purpose, pieces)?;
         cite.pieces = self.worded(asked, pieces)?;
+        if asked.shown.is_some() {
+            leave_out_marks(self.alloc, &mut cite)?;
+        }
         let formatting = self.setting.style.citation.layout.formatting;
         self.told(cite, TextFormatting::NORMAL.with(formatting))
     }
@@ -195,6 +198,14 @@ impl<'s, 'i, 'd> TaskWriter<'s, 'i, 'd> {
 /// Puts what was written into the table.
 fn put(table: &mut Table, key: TaskKey, cite: driver::Cite) -> Result<(), AllocError> {
     table.insert(key, cite)?;
+    Ok(())
+}
+
+/// Leaves out what the driver is told of the parts of a cite: of one that is shown it asks nothing.
+fn leave_out_marks(alloc: Global, cite: &mut WrittenCite) -> Result<(), AllocError> {
+    let pieces = replace(&mut cite.pieces, Pieces::new(alloc));
+    cite.pieces = pieces.without_marks(alloc)?;
+    cite.first_forms = None;
     Ok(())
 }
 

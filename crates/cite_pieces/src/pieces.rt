@@ -119,6 +119,31 @@ impl Pieces {
         Ok(())
     }
 
+    /// The stream without its marks. What is in them stays.
+    ///
+    /// # Errors
+    ///
+    /// Where memory is refused.
+    pub fn without_marks(self, alloc: Global) -> Result<Pieces, AllocError> {
+        let mut kept = Pieces::new(alloc);
+        let mut are_marks = Vec::new(alloc);
+        for piece in self.pieces {
+            let is_of_mark = match &piece {
+                Piece::Text(_) => false,
+                Piece::Open(wrap) => {
+                    let is_mark = matches!(wrap, Wrap::Mark(_));
+                    are_marks.push(is_mark)?;
+                    is_mark
+                }
+                Piece::Close => are_marks.pop() == Some(true),
+            };
+            if !is_of_mark {
+                kept.pieces.push(piece)?;
+            }
+        }
+        Ok(kept)
+    }
+
     /// The stream without its parts of this mark.
     ///
     /// # Errors

@@ -1,4 +1,5 @@
 //! Trees of streams.
+use crate::streams::stream_of;
 use cite_pieces::formatting::TextFormatting;
 use cite_pieces::piece::{Mark, Piece, Wrap};
 use cite_pieces::pieces::Pieces;
@@ -56,6 +57,15 @@ pub fn tree_of(
     }
     let Builder { children, .. } = builder;
     Ok(children)
+}
+
+/// What of a tree is shown, without what its elements stand for.
+///
+/// # Errors
+///
+/// Where memory is refused.
+pub fn shown_of(alloc: Global, tree: &ElemChildren) -> Result<ElemChildren, AllocError> {
+    tree_of(alloc, stream_of(alloc, tree)?, TextFormatting::NORMAL, &[])
 }
 
 /// A tree that is being built.
