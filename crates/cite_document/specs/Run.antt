@@ -78,6 +78,12 @@ IsRefusedFor document errors.NumberOverflow read =
 IsRefusedFor document errors.OutOfMemory read = Unit {0}
 IsRefusedFor document errors.Output read = ⊥
 
+-- why nothing comes of what indexes point to: one points to nothing, or memory is refused
+abbrev pub IsMissing : {A : Type 0} → Option A → RunError → Type 0
+IsMissing pointed errors.Document = pointed ≡ None
+IsMissing pointed errors.OutOfMemory = Unit {0}
+IsMissing pointed _ = ⊥
+
 -- why there is no answer, where the form gives this document, or none
 abbrev pub IsRefused : RunError → Option Document → Type 0
 IsRefused = IsRefusedFor (λ d. d)
