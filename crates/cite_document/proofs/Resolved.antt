@@ -10,7 +10,7 @@ use Rattle.json_document.specs.Form.{Asked, Document, document_of, request_with}
 use Rattle.json_document.specs.Indexes.{asked_at, each_of, order_at, request_at, wanted_at}
 use Rattle.json_document.specs.Requests.{RequestOf, WantedOf}
 use Rattle.cite_document.specs.Filled.{wanted_with}
-use Rattle.cite_document.specs.Run.{IsMissing, IsRefusedFor, accepted, wanted_of}
+use Rattle.cite_document.specs.Run.{IsMissing, IsRefusedFor, accepted, bibliography_of}
 use Rattle.cite_document.specs.declared.error.RunError.{RunError}
 use Rattle.cite_document.specs.declared.error.RunError.TheVariants as errors
 
@@ -73,7 +73,7 @@ module _ (entries : List PlainEntry) (styles : List StyleValue) (locales : List 
     pub document : Document
     pub is : resolved ≡ Some document
     pub made : v ≡ record { requests = accepted document.requests; offset = document.offset }
-    pub wanted : w ≡ wanted_of document
+    pub wanted : w ≡ bibliography_of document
     pub rounds : a.rounds ≡ document.rounds
 
   pub asks-for : (v : Driver PlainEntry Infallible) (w : Wanted PlainEntry) (order : Option (List PlainEntry))

@@ -1,4 +1,4 @@
--- What a driver is asked, part by part.
+-- The bibliography that a driver is asked for, of its parts.
 use Rattle.std.specs.Prelude.{ℕ, List, Option}
 use Rattle.csl_passes.specs.Request.{Wanted}
 use Rattle.csl_style_values.specs.Style.{LocaleValue, StyleValue}

@@ -49,7 +49,7 @@ pub struct Document {
     pub job: Job,
 }
 
-/// The document that the value is.
+/// Reads a document from a JSON value.
 #[tactic(auto, unfolding(json_document::specs::Form::document_form))]
 fn document_of(alloc: Global, value: &Value) -> Result<Document, ReadError>
     ensures read { ReadsAll document_view result (document_form (view value.now)) }
@@ -68,7 +68,7 @@ fn document_of(alloc: Global, value: &Value) -> Result<Document, ReadError>
     })
 }
 
-/// The answer of a driver in these rounds, as layouts write.
+/// The answer of a driver in this mode, written by layouts.
 fn answer_in<'e>(
     driver: &BibliographyDriver<'e, PlainEntry, Infallible>,
     request: &BibliographyRequest<'_, 'e, PlainEntry>,
@@ -105,10 +105,10 @@ impl Document {
         document_of(alloc, &value)
     }
 
-    /// The first fault of the bytes, where they are no document: the first that is met when the
-    /// styles are read, then the locales, the entries, the rounds, the requests, the bibliography
-    /// and the offset, and of each object first its keys and then its members in the order in which
-    /// the form names them.
+    /// A fault of the bytes, where they are no document. It is the first that is met (this is
+    /// tested, not proved): in the styles, then the locales, the entries, the rounds, the requests,
+    /// the bibliography and the offset, and of each object first in its keys and then in its members,
+    /// in the order in which the form names them.
     ///
     /// # Errors
     /// Where memory is refused.
@@ -123,11 +123,11 @@ impl Document {
         }
     }
 
-    /// The answer to the document, in the rounds that it names.
+    /// The answer to the document, in its mode.
     ///
     /// # Errors
-    /// `MacroRing` and `NumberOverflow` exactly where the driver refuses the document;
-    /// `OutOfMemory` where memory is refused; `Document` where an index of the job points to
+    /// `MacroRing` and `NumberOverflow` only where the driver refuses the document, and there no
+    /// answer is given; `OutOfMemory` where memory is refused; `Document` where an index of the job points to
     /// nothing, as none does in a document that was read.
     pub fn answer(&self, alloc: Global) -> Result<Rendered, RunError>
         ensures { IsRunAnswer result (document_view self.now) }

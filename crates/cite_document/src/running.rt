@@ -25,7 +25,7 @@ use std::io::Write;
 /// The answer to the document of these bytes. Its JSON is dropped before anything is rendered.
 ///
 /// # Errors
-/// As those of `run`, and never `Output`.
+/// Those of `run`, but never `Output`.
 pub fn answer_bytes(alloc: Global, bytes: &[u8]) -> Result<Rendered, RunError>
     ensures { IsRunAnswer result (form bytes.now) }
 {
@@ -33,10 +33,10 @@ pub fn answer_bytes(alloc: Global, bytes: &[u8]) -> Result<Rendered, RunError>
     document.answer(alloc)
 }
 
-/// What the document of these bytes prints.
+/// The text that is printed for the document of these bytes.
 ///
 /// # Errors
-/// As those of `run`, and never `Output`.
+/// Those of `run`, but never `Output`.
 pub fn print_bytes(alloc: Global, bytes: &[u8]) -> Result<String, RunError>
     ensures { Prints print result (form bytes.now) }
 {
@@ -47,7 +47,7 @@ pub fn print_bytes(alloc: Global, bytes: &[u8]) -> Result<String, RunError>
 /// The answer to the document of these bytes as JSON.
 ///
 /// # Errors
-/// As those of `run`, and never `Output`.
+/// Those of `run`, but never `Output`.
 pub fn print_json_bytes(alloc: Global, bytes: &[u8]) -> Result<String, RunError>
     ensures { Prints json_text result (form bytes.now) }
 {
@@ -59,9 +59,9 @@ pub fn print_json_bytes(alloc: Global, bytes: &[u8]) -> Result<String, RunError>
 /// written.
 ///
 /// # Errors
-/// `Document` exactly where the bytes are no document; `MacroRing` and `NumberOverflow` exactly
-/// where the driver refuses the document; `Output` where the writer fails, which may have taken a
-/// beginning; `OutOfMemory` where memory runs out before the text is ready.
+/// `Document` only where the bytes are no document; `MacroRing` and `NumberOverflow` only where the
+/// driver refuses the document; `Output` where the writer fails, when part of the text may have been
+/// written; `OutOfMemory` where memory runs out before the text is ready.
 pub fn run<W: Write>(alloc: Global, bytes: &[u8], out: &mut W) -> Result<(), RunError>
     ensures written { OnOk result (IsDocumentThat (form bytes.now)
         (λ d. Appends (W.contents out.old) (W.contents out.new) (print (answer d)))) }

@@ -47,7 +47,7 @@ pub struct DrivenDocument {
     pub table: Table,
 }
 
-/// The driven document that the value is.
+/// Reads a driven document from a JSON value.
 #[tactic(auto, unfolding(crate::specs::DrivenForm::driven_document_form, crate::specs::DrivenForm::driven_by))]
 fn driven_document_of(alloc: Global, value: &Value) -> Result<DrivenDocument, ReadError>
     ensures read { ReadsAll driven_view result (driven_document_form (view value.now)) }
@@ -69,7 +69,7 @@ fn driven_document_of(alloc: Global, value: &Value) -> Result<DrivenDocument, Re
 
 type Driver<'e> = BibliographyDriver<'e, PlainEntry, Infallible>;
 
-/// The text of what comes of a driver in so many rounds, with what is in this table.
+/// The text of what comes of a driver in a mode of rounds, with what is in this table.
 fn text_of_rounds<'e>(
     alloc: Global,
     driver: &Driver<'e>,
@@ -102,7 +102,7 @@ fn text_of_csl<'e>(
     Ok(driven_text(alloc, driven)?)
 }
 
-/// The text of what comes of a driver in these rounds, with what is in this table.
+/// The text of what comes of a driver in this mode, with what is in this table.
 fn text_in<'e>(
     alloc: Global,
     driver: &Driver<'e>,
@@ -136,10 +136,10 @@ impl DrivenDocument {
         driven_document_of(alloc, &value)
     }
 
-    /// The first fault of the bytes, where they are no driven document: the first that is met when
-    /// the styles are read, then the entries, the rounds, the requests, the bibliography, the
-    /// offset, and last what was written; and of each object first its keys and then its members in
-    /// the order in which the form names them.
+    /// A fault of the bytes, where they are no driven document. It is the first that is met (this is
+    /// tested, not proved): in the styles, then the entries, the rounds, the requests, the
+    /// bibliography, the offset, and last in what was written; and of each object first in its keys
+    /// and then in its members, in the order in which the form names them.
     ///
     /// # Errors
     /// Where memory is refused.
@@ -158,7 +158,7 @@ impl DrivenDocument {
     /// else `{"missing": [..]}`, the tasks that are missing, each once.
     ///
     /// # Errors
-    /// `MacroRing` and `NumberOverflow` where the driver refuses it; `OutOfMemory` where memory is
+    /// `MacroRing` and `NumberOverflow` only where the driver refuses it; `OutOfMemory` where memory is
     /// refused; `Document` where an index of its job points to nothing, as none does in a document
     /// that was read.
     pub fn drive(&self, alloc: Global) -> Result<String, RunError>

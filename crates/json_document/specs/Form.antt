@@ -27,14 +27,14 @@ pub record Document : Type 0 where
   pub offset : ℕ
   pub rounds : Rounds
 
--- what is asked for, by what names and keys find
+-- what is asked for, of styles and entries, or of their indexes
 pub record Asked (S E : Type 0) : Type 0 where
   pub requests : List (RequestOf S E)
   pub wanted : WantedOf S E
   pub offset : ℕ
   pub rounds : Rounds
 
--- what is asked for, of the styles and entries that names and keys find
+-- what is asked for, with styles looked up by name and entries by key
 unfoldable pub asked_form : {S E : Type 0} → (List ℕ → Option S) → (List ℕ → Option E) → Data
     → Option (Asked S E)
 asked_form style entry o = do

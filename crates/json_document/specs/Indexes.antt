@@ -18,6 +18,7 @@ each_of f (x ∷ xs) = do
   Some (y ∷ ys)
 
 module _ {E F : Type 0} (entry : E → Option F) where
+  -- a cite, with the entry that its index points to
   abbrev pub cite_at : RequestedCite E Infallible → Option (RequestedCite F Infallible)
   cite_at c = do
     cited ← entry c.entry
@@ -31,6 +32,7 @@ module _ {E F : Type 0} (entry : E → Option F) where
       place = c.place;
     })
 
+  -- an order of a bibliography, with the entries that its indexes point to
   abbrev pub order_at : Option (List E) → Option (Option (List F))
   order_at None = Some None
   order_at (Some xs) = do
@@ -38,6 +40,7 @@ module _ {E F : Type 0} (entry : E → Option F) where
     Some (Some ys)
 
   module _ {S T : Type 0} (style : S → Option T) where
+    -- a request, with what its indexes point to
     abbrev pub request_at : RequestOf S E → Option (RequestOf T F)
     request_at r = do
       by ← style r.style
@@ -49,12 +52,14 @@ module _ {E F : Type 0} (entry : E → Option F) where
         cites = cites;
       })
 
+    -- a request for a bibliography, with what its indexes point to
     abbrev pub wanted_at : WantedOf S E → Option (WantedOf T F)
     wanted_at w = do
       by ← style w.style
       order ← order_at w.order
       Some (record { style = by; locale = w.locale; order = order })
 
+    -- what is asked for, with what its indexes point to
     abbrev pub asked_at : Asked S E → Option (Asked T F)
     asked_at a = do
       requests ← each_of request_at a.requests
@@ -66,7 +71,7 @@ module _ {E F : Type 0} (entry : E → Option F) where
         rounds = a.rounds;
       })
 
--- what was read, seen by view, is what the form gives, which is something
+-- what was read is, seen by view, what the form gives, and the form gives something
 abbrev pub ReadsAll : {X Y : Type 0} → (X → Option Y) → Result X ReadError → Option Y → Type 0
 ReadsAll view (Ok x) read = IsSome read × (view x ≡ read)
 ReadsAll view (Err e) read = Fails e read

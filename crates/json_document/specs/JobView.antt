@@ -1,4 +1,4 @@
--- The plain data that what a document asks for stands for: indexes in place of styles and entries.
+-- What a `Job` stands for as plain data, with indexes in place of styles and entries.
 use Rattle.std.specs.Prelude.{ℕ, List, map, option_map, string_bytes}
 use Rattle.std.specs.declared.convert.Infallible.{Infallible}
 use Rattle.csl_style_values.specs.StyleView.{code_view}

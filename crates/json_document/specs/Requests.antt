@@ -1,4 +1,4 @@
--- The form of what is asked for, of the styles and entries that names and keys find.
+-- The form of what is asked for, with styles looked up by name and entries by key.
 use Rattle.std.specs.Prelude.{ℕ, List, [], ◌∷◌, Option, Some, None, option_and_then, codes}
 use Rattle.std.specs.declared.convert.Infallible.{Infallible}
 use Rattle.serde_json.specs.Data.{Data, Items, no_items, item}
@@ -50,14 +50,14 @@ item_form entry rounds d = do
     place = 0;
   })
 
--- a request for a citation, by what names and keys find
+-- a request for a citation, of a style and entries, or of their indexes
 pub record RequestOf (S E : Type 0) : Type 0 where
   pub style : S
   pub locale : Option (List ℕ)
   pub note_number : Option ℕ
   pub cites : List (RequestedCite E Infallible)
 
--- a request for a bibliography, by what names and keys find
+-- a request for a bibliography, of a style and entries, or of their indexes
 pub record WantedOf (S E : Type 0) : Type 0 where
   pub style : S
   pub locale : Option (List ℕ)

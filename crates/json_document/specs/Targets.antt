@@ -15,7 +15,7 @@ use Rattle.json_document.specs.declared.requests.Targets.{Targets}
 abbrev pub files_in : Targets → List LocaleValue
 files_in t = map locale_view (locales_of t.files.now)
 
--- the style of an index
+-- the style that an index points to
 abbrev pub style_in : Targets → ℕ → Option StyleValue
 style_in t = slice_get (found_views t.styles.now)
 

@@ -144,7 +144,7 @@ fn wanted_at(
     }
 }
 
-/// What the document asks for, of the styles and entries that the maps find.
+/// What the document asks for; the maps have the indexes of its styles and entries.
 #[tactic(auto, unfolding(crate::specs::Form::asked_form))]
 fn job_of(
     alloc: Global,

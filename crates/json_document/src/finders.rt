@@ -49,7 +49,7 @@ pub fn entry_indexes<'e>(
     Ok(by_key)
 }
 
-/// By the indexes of styles, whether the job asks for them.
+/// For each style, by its index, whether the job asks for it.
 fn asked_styles(alloc: Global, job: &Job, count: usize) -> Result<Vec<bool>, AllocError> {
     let mut asked_for = vec![in alloc; false; count]?;
     if let Some(is_asked_for) = asked_for.get_mut(job.wanted.style) {

@@ -347,7 +347,7 @@ fn all_requests(
     Ok(requests)
 }
 
-/// The requests of the document, in which works are told apart so.
+/// The requests of the document, in this mode.
 #[tactic(auto, using(json_values::proofs::Ways::fails_outside))]
 pub fn requests_of(
     alloc: Global,

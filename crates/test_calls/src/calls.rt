@@ -140,7 +140,7 @@ fn take_all<'e, 'f: 'e>(
 
 /// What the driver is asked of the bibliography: of the prepared style, if there is one, or of the
 /// style itself.
-fn wanted_of<'o, 'e, 'f: 'e>(
+fn bibliography_asked<'o, 'e, 'f: 'e>(
     alloc: Global,
     asking: Asking<'e, 'f>,
     order: &'o Option<Vec<&'e PlainEntry>>,
@@ -313,7 +313,7 @@ fn answer_all<'e, 'f: 'e>(
     let came_back = take_all(rt, &mut driver, asking, is_prepared)?;
     let _ = eprintln!(rt; "prepare");
     let order = bibliography_order(alloc, &job.wanted, asking.targets.entries)?;
-    let request = wanted_of(alloc, asking, &order, is_prepared)?;
+    let request = bibliography_asked(alloc, asking, &order, is_prepared)?;
     print_asked(rt, driver, request, job.rounds, how)?;
     if came_back {
         Ok(Seen::AnswerAtLast)
@@ -393,7 +393,7 @@ fn compare<'e, 'f: 'e>(
     print_requests(rt, requests);
     let alloc = rt.alloc();
     let order = bibliography_order(alloc, &asking.document.job.wanted, asking.targets.entries)?;
-    let wanted = wanted_of(alloc, asking, &order, true)?;
+    let wanted = bibliography_asked(alloc, asking, &order, true)?;
     print_wanted(rt, &wanted);
     drop(wanted);
     if properties_differ() {
