@@ -34,11 +34,13 @@ accepted = map with_places
 
 -- the bibliography that a document asks for
 abbrev pub bibliography_of : Document → Wanted PlainEntry
-bibliography_of d = record { style = d.style; locale = d.locale; locales = d.locales; order = d.order }
+bibliography_of d =
+    record { style = d.style; locale = d.locale; locales = d.locales; order = d.order }
 
 -- what a document asks of a driver
 abbrev pub document_job : Document → Job PlainEntry Infallible
-document_job d = record { wanted = bibliography_of d; requests = accepted d.requests; offset = d.offset }
+document_job d =
+    record { wanted = bibliography_of d; requests = accepted d.requests; offset = d.offset }
 
 -- the whole answer in so many rounds, or as CSL has it
 abbrev pub answer_in : Rounds → Job PlainEntry Infallible → Rendered

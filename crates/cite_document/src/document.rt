@@ -107,8 +107,8 @@ impl Document {
 
     /// A fault of the bytes, where they are no document. It is the first that is met (this is
     /// tested, not proved): in the styles, then the locales, the entries, the rounds, the requests,
-    /// the bibliography and the offset, and of each object first in its keys and then in its members,
-    /// in the order in which the form names them.
+    /// the bibliography and the offset, and of each object first in its keys and then in its
+    /// members, in the order in which the form names them.
     ///
     /// # Errors
     /// Where memory is refused.
@@ -127,8 +127,8 @@ impl Document {
     ///
     /// # Errors
     /// `MacroRing` and `NumberOverflow` only where the driver refuses the document, and there no
-    /// answer is given; `OutOfMemory` where memory is refused; `Document` where an index of the job points to
-    /// nothing, as none does in a document that was read.
+    /// answer is given; `OutOfMemory` where memory is refused; `Document` where an index of the job
+    /// points to nothing, as none does in a document that was read.
     pub fn answer(&self, alloc: Global) -> Result<Rendered, RunError>
         ensures { IsRunAnswer result (document_view self.now) }
     {

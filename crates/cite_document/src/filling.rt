@@ -123,7 +123,8 @@ pub fn bibliography_request<'o, 'e, 'f: 'e>(
 ) -> Result<BibliographyRequest<'o, 'e, PlainEntry>, RunError>
     ensures wanted { IfOk result (λ request. option_map
         (wanted_with (asked_bibliography_view wanted.now).locale (files_in targets.entry)
-        (option_map (λ v. entries_view v.items) order.now)) (style_in targets.entry wanted.now.style)
+        (option_map (λ v. entries_view v.items) order.now))
+        (style_in targets.entry wanted.now.style)
         ≡ Some (wanted_view request)) }
     ensures missing { IfErr result (IsMissing (style_in targets.entry wanted.now.style)) }
 {

@@ -60,8 +60,8 @@ pub fn print_json_bytes(alloc: Global, bytes: &[u8]) -> Result<String, RunError>
 ///
 /// # Errors
 /// `Document` only where the bytes are no document; `MacroRing` and `NumberOverflow` only where the
-/// driver refuses the document; `Output` where the writer fails, when part of the text may have been
-/// written; `OutOfMemory` where memory runs out before the text is ready.
+/// driver refuses the document; `Output` where the writer fails, when part of the text may have
+/// been written; `OutOfMemory` where memory runs out before the text is ready.
 pub fn run<W: Write>(alloc: Global, bytes: &[u8], out: &mut W) -> Result<(), RunError>
     ensures written { OnOk result (IsDocumentThat (form bytes.now)
         (λ d. Appends (W.contents out.old) (W.contents out.new) (print (answer d)))) }

@@ -136,8 +136,8 @@ impl DrivenDocument {
         driven_document_of(alloc, &value)
     }
 
-    /// A fault of the bytes, where they are no driven document. It is the first that is met (this is
-    /// tested, not proved): in the styles, then the entries, the rounds, the requests, the
+    /// A fault of the bytes, where they are no driven document. It is the first that is met (this
+    /// is tested, not proved): in the styles, then the entries, the rounds, the requests, the
     /// bibliography, the offset, and last in what was written; and of each object first in its keys
     /// and then in its members, in the order in which the form names them.
     ///
@@ -158,9 +158,9 @@ impl DrivenDocument {
     /// else `{"missing": [..]}`, the tasks that are missing, each once.
     ///
     /// # Errors
-    /// `MacroRing` and `NumberOverflow` only where the driver refuses it; `OutOfMemory` where memory is
-    /// refused; `Document` where an index of its job points to nothing, as none does in a document
-    /// that was read.
+    /// `MacroRing` and `NumberOverflow` only where the driver refuses it; `OutOfMemory` where memory
+    /// is refused; `Document` where an index of its job points to nothing, as none does in a
+    /// document that was read.
     pub fn drive(&self, alloc: Global) -> Result<String, RunError>
         ensures { Drives result (driven_view self.now) }
     {

@@ -24,6 +24,7 @@ abbrev pub request_in : Targets → AskedRequest → Option (RequestOf StyleValu
 request_in t r = request_at (slice_get t.entries.now) (style_in t) (asked_request_view r)
 
 -- requests with what their indexes point to, if all of it is there
-abbrev pub requests_in : Targets → List AskedRequest → Option (List (RequestOf StyleValue PlainEntry))
+abbrev pub requests_in : Targets → List AskedRequest
+    → Option (List (RequestOf StyleValue PlainEntry))
 requests_in t rs =
     each_of (request_at (slice_get t.entries.now) (style_in t)) (asked_requests_view rs)
