@@ -140,7 +140,7 @@ impl Document {
             files: &files,
         };
         let driver = filled_driver(alloc, &self.job.requests, targets, self.job.offset)?;
-        let order = bibliography_order(alloc, &self.job.wanted, &self.entries)?;
+        let order = bibliography_order(alloc, &self.job.wanted, targets.entries)?;
         let request = bibliography_request(alloc, &self.job.wanted, &order, targets)?;
         let rendered = answer_in(&driver, &request, self.job.rounds)?;
         Ok(rendered)

@@ -14,7 +14,7 @@ loop-request-preserved c =
     record {
       handed = EachProgress-more asked_request_view (taken locales request) c.args.requests.now c.loop-request.request-index _ _ c.request-item.result _
           c.loop-request-test.true c.request-item.is
-          (request-taken locales request (asked_request_view c.request-item.result) _ (rw c.in-Some.is at c.in_ok-driver_request.ensures))
+          (request-taken locales request (asked_request_view c.request-item.result) _ (rw c.in-Some.is at c.in_ok-made.ensures))
           (ap (λ d. d.requests) c.in_ok-take-in-Some.ensures.taken) c.loop-request.invariant.handed;
       same_offset = ap (λ d. d.offset) c.in_ok-take-in-Some.ensures.taken ∙ c.loop-request.invariant.same_offset;
     }
@@ -26,7 +26,7 @@ returns-in-None-clause-missing c =
     none-taken locales request (asked_requests_view c.args.requests.now)
     (EachProgress-none asked_request_view (taken locales request) c.args.requests.now c.loop-request.request-index _ c.request-item.result
     c.loop-request-test.true c.request-item.is c.loop-request.invariant.handed
-    (request-missing locales request (asked_request_view c.request-item.result) (rw c.in-None.is at c.in_ok-driver_request.ensures)))
+    (request-missing locales request (asked_request_view c.request-item.result) (rw c.in-None.is at c.in_ok-made.ensures)))
 
 pub returns-clause-requests : goal.returns-clause-requests
 returns-clause-requests c =

@@ -1,12 +1,16 @@
 -- What the driver answers, or why it refuses, is of the document; and so is what an index that points to nothing refuses.
-use Rattle.std.proofs.Common.{map, rules, slice_get}
+use Rattle.std.proofs.Common.{◌≡◌, ◌∙◌, ap, map, rules, slice_get, sym}
 use Rattle.std.specs.Prelude.{option_map}
 use Rattle.csl_style_values.specs.StyleView.{locale_view}
 use Rattle.csl_driver.specs.DriverView.{driver_view}
 use Rattle.csl_passes.specs.RequestView.{entries_view, wanted_view}
-use Rattle.json_document.specs.FoundView.{unnamed}
-use Rattle.json_document.specs.JobView.{asked_view}
+use Rattle.json_document.specs.Form.{request_with}
+use Rattle.json_document.specs.FoundView.{found_views, unnamed}
+use Rattle.json_document.specs.Indexes.{each_of, order_at, request_at}
+use Rattle.json_document.specs.JobView.{asked_bibliography_view, asked_requests_view, asked_view}
 use Rattle.cite_document.specs.DocumentView.{document_view}
+use Rattle.cite_document.specs.Filled.{wanted_with}
+use Rattle.cite_document.specs.Run.{accepted}
 use Rattle.cite_document.proofs.Refusals.{has_answer, is_answer, refused-with}
 use Rattle.cite_document.proofs.Resolved.{asks-for, missing, no-order, no-requests, no-style}
 use Rattle.cite_document.proofs.document.Document.answer.Goals as goal
@@ -16,7 +20,16 @@ returns c =
     let d = c.args.self.now in
     let v = driver_view c.in_ok-driver.driver in
     let w = wanted_view c.in_ok-request.request in
-    let asks = asks-for d.entries.items (unnamed d.styles.items) (map locale_view d.locales.items) (asked_view d.job) v w
-    (option_map (λ o. entries_view o.items) c.in_ok-order.order) ? c.in_ok-driver.ensures.offset ? ? in
+    let order = option_map (λ o. entries_view o.items) c.in_ok-order.order in
+    let locales = sym (c.in_ok-files.ensures ∙ c.deref-1.ensures.value) in
+    let styles = sym (ap found_views c.deref-2.ensures.value ∙ c.in_ok-found.ensures ∙ ap unnamed c.deref.ensures.value) in
+    let entries = sym c.deref-3.ensures.value in
+    let requests = sym c.deref-4.ensures.value in
+    let asks = asks-for d.entries.items (unnamed d.styles.items) (map locale_view d.locales.items) (asked_view d.job) v w order
+    ((λ i. option_map (λ rs. accepted (map (request_with (map locale_view (locales i))) rs)) (each_of (request_at (slice_get (entries i)) (slice_get (styles i))) (asked_requests_view (requests i))))
+    ∙ c.in_ok-driver.ensures.requests)
+    c.in_ok-driver.ensures.offset
+    ((λ i. order_at (slice_get (entries i)) (asked_bibliography_view d.job.wanted).order) ∙ c.in_ok-order.ensures.order)
+    ((λ i. option_map (wanted_with (asked_bibliography_view d.job.wanted).locale (map locale_view (locales i)) order) (slice_get (styles i) d.job.wanted.style)) ∙ c.in_ok-request.ensures.wanted) in
     let a = has_answer v w asks.document asks.made asks.wanted c.in_ok-rendered.ensures.possible in
     (asks.document, asks.is, (a, is_answer v w asks.document asks.made asks.wanted d.job.rounds c.in_ok-rendered.rendered asks.rounds c.in_ok-rendered.ensures.answer))
