@@ -15,4 +15,5 @@ returns-clause-read c =
     let locales = map locale_view c.in_ok-locales.locales.items in
     document-read (view c.args.value.now) (view c.in_ok-object.object.now) (named_styles_view styles) locales c.in_ok-entries.entries.items
     c.in_ok-object.ensures.read c.in_ok-styles.ensures.read c.in_ok-locales.ensures.read c.in_ok-entries.ensures.read _
-    c.in_ok-job.ensures.read.0 (ap (option_and_then (λ a. Some (asking locales a))) c.in_ok-job.ensures.read.1)
+    (rw (c.deref.ensures.value, c.deref-2.ensures.value) at c.in_ok-job.ensures.read.0)
+    (ap (option_and_then (λ a. Some (asking locales a))) (rw (c.deref.ensures.value, c.deref-2.ensures.value) at c.in_ok-job.ensures.read.1))
