@@ -4,7 +4,7 @@ use Rattle.serde_json.specs.View.{view}
 use Rattle.csl_style_values.specs.StyleView.{locale_view}
 use Rattle.host_table.specs.Table.{found}
 use Rattle.json_styles.specs.NamedStyleView.{named_styles_view}
-use Rattle.host_document.proofs.Reading.{driven-read}
+use Rattle.host_document.proofs.DrivenRead.{driven-read}
 use Rattle.host_document.proofs.driving.driven_document_of.Goals as goal
 
 pub returns-clause-read : goal.returns-clause-read

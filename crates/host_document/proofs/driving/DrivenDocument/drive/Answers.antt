@@ -18,7 +18,7 @@ use Rattle.host_document.specs.Drive.{TellsIn}
 use Rattle.host_document.specs.DrivenForm.{DrivenDocument}
 use Rattle.host_document.specs.DrivenView.{driven_view}
 use Rattle.host_document.proofs.JobOf.{comes}
-use Rattle.host_document.proofs.Reading.{with_table}
+use Rattle.host_document.proofs.DrivenRead.{with_table}
 use Rattle.host_document.proofs.driving.DrivenDocument.drive.Goals as goal
 
 pub returns : goal.returns
