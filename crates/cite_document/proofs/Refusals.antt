@@ -16,20 +16,20 @@ use Rattle.csl_driver.specs.declared.error.RingLocation.{RingLocation}
 use Rattle.csl_assembly.specs.declared.rendered.Rendered.{Rendered}
 use Rattle.json_document.specs.Form.{Document}
 use Rattle.json_document.specs.declared.rounds.Rounds.{Rounds}
-use Rattle.cite_document.specs.Run.{same_plain_entry, accepted, wanted_of, answer, answer_in, HasAnswer, HasFirstRing, HasTooLargeNumbers, IsRefusedFor}
+use Rattle.cite_document.specs.Run.{same_plain_entry, accepted, bibliography_of, answer, answer_in, HasAnswer, HasFirstRing, HasTooLargeNumbers, IsRefusedFor}
 use Rattle.cite_document.specs.Status.{refused}
 
-module _ (v : Driver PlainEntry Infallible) (w : Wanted PlainEntry) (d : Document) (p : v ≡ record { requests = accepted d.requests; offset = d.offset }) (q : w ≡ wanted_of d) where
+module _ (v : Driver PlainEntry Infallible) (w : Wanted PlainEntry) (d : Document) (p : v ≡ record { requests = accepted d.requests; offset = d.offset }) (q : w ≡ bibliography_of d) where
   pub has_answer : CanBeAnswered same_plain_entry (record { wanted = w; requests = v.requests; offset = v.offset }) → HasAnswer d
   has_answer can =
-      subst (λ x. CanBeAnswered same_plain_entry (record { wanted = wanted_of d; requests = x.requests; offset = x.offset })) p
+      subst (λ x. CanBeAnswered same_plain_entry (record { wanted = bibliography_of d; requests = x.requests; offset = x.offset })) p
       (subst (λ (x : Wanted PlainEntry). CanBeAnswered same_plain_entry (record { wanted = x; requests = v.requests; offset = v.offset })) q can)
 
   pub is_answer : (rounds : Rounds) (r : Rendered) → rounds ≡ d.rounds → r ≡ answer_in rounds (record { wanted = w; requests = v.requests; offset = v.offset }) → r ≡ answer d
   is_answer rounds r m e =
       e ∙ ap (λ x. answer_in x (record { wanted = w; requests = v.requests; offset = v.offset })) m
       ∙ ap (λ x. answer_in d.rounds (record { wanted = x; requests = v.requests; offset = v.offset })) q
-      ∙ ap (λ x. answer_in d.rounds (record { wanted = wanted_of d; requests = x.requests; offset = x.offset })) p
+      ∙ ap (λ x. answer_in d.rounds (record { wanted = bibliography_of d; requests = x.requests; offset = x.offset })) p
 
   first_ring : (place : RingLocation) (i : ℕ) → IsFirstRingOf v.requests w.style place i → HasFirstRing place i d
   first_ring place i h =

@@ -33,12 +33,14 @@ abbrev pub accepted : List (Request PlainEntry Infallible) → List (Request Pla
 accepted = map with_places
 
 -- the bibliography that a document asks for
-abbrev pub wanted_of : Document → Wanted PlainEntry
-wanted_of d = record { style = d.style; locale = d.locale; locales = d.locales; order = d.order }
+abbrev pub bibliography_of : Document → Wanted PlainEntry
+bibliography_of d =
+    record { style = d.style; locale = d.locale; locales = d.locales; order = d.order }
 
 -- what a document asks of a driver
 abbrev pub document_job : Document → Job PlainEntry Infallible
-document_job d = record { wanted = wanted_of d; requests = accepted d.requests; offset = d.offset }
+document_job d =
+    record { wanted = bibliography_of d; requests = accepted d.requests; offset = d.offset }
 
 -- the whole answer in so many rounds, or as CSL has it
 abbrev pub answer_in : Rounds → Job PlainEntry Infallible → Rendered
@@ -51,15 +53,17 @@ answer_in ways.Csl job =
 abbrev pub answer : Document → Rendered
 answer d = answer_in d.rounds (document_job d)
 
--- the first ring of a document's styles: the style's place, and that of its first macro on a ring
+-- the first ring of the styles that a document asks for: where it asks for the style, and the index
+-- of its first macro on a ring
 abbrev pub HasFirstRing : RingLocation → ℕ → Document → Type 0
 HasFirstRing place i d = IsFirstRingOf (accepted d.requests) d.style place i
 
--- no style of a document has a ring, and its numbers are not above the greatest usize
+-- no style that a document asks for has a ring, and its offset and the number of its cited entries
+-- together are not above the greatest usize
 abbrev pub HasAnswer : Document → Type 0
 HasAnswer d = CanBeAnswered same_plain_entry (document_job d)
 
--- no style of a document has a ring, and its numbers are above the greatest usize
+-- no style that it asks for has a ring, and these together are above the greatest usize
 abbrev pub HasTooLargeNumbers : Document → Type 0
 HasTooLargeNumbers d = NoRingAtAll (accepted d.requests) d.style
     × Overflows same_plain_entry (accepted d.requests) d.offset
@@ -77,6 +81,12 @@ IsRefusedFor document errors.NumberOverflow read =
     IsDocumentThat read (λ d. HasTooLargeNumbers (document d))
 IsRefusedFor document errors.OutOfMemory read = Unit {0}
 IsRefusedFor document errors.Output read = ⊥
+
+-- why nothing comes of what indexes point to: one points to nothing, or memory is refused
+abbrev pub IsMissing : {A : Type 0} → Option A → RunError → Type 0
+IsMissing pointed errors.Document = pointed ≡ None
+IsMissing pointed errors.OutOfMemory = Unit {0}
+IsMissing pointed _ = ⊥
 
 -- why there is no answer, where the form gives this document, or none
 abbrev pub IsRefused : RunError → Option Document → Type 0

@@ -14,17 +14,18 @@ pub enum RunError {
     /// the output failed.
     #[error("cite_run: input or output failed")]
     Output,
-    /// The input isn't JSON, or not the form of a document.
+    /// The input isn't JSON, or not the form of a document; or an index of what a document asks for
+    /// points to nothing, as none does in a document that was read.
     #[error("cite_run: document refused")]
     Document,
     /// The macros of a style call each other in a ring: where the first such style is asked for,
-    /// and its first macro on a ring.
+    /// and the index of its first macro on a ring.
     #[error("cite_run: macro ring")]
     MacroRing {
         place: RingLocation,
         macro_index: usize,
     },
-    /// The offset and the number of entries together are above the greatest `usize`.
+    /// The offset and the number of cited entries together are above the greatest `usize`.
     #[error("cite_run: number overflow")]
     NumberOverflow,
     /// There was no memory left.

@@ -14,8 +14,8 @@ ghost use Rattle.cite_document.specs.FaultText.{
 };
 ghost use Rattle.cite_document.specs.TellsFault.{TellsFault};
 
+use crate::document::Document;
 use crate::error::RunError;
-use json_document::first_fault::first_fault;
 use json_values::fault::{Fault, Found, Step, Wanted};
 use serde_json::{Map, Value, put};
 use std::alloc::{AllocError, Global};
@@ -197,7 +197,7 @@ pub fn print_fault(alloc: Global, fault: &Fault) -> Result<String, AllocError>
 pub fn print_fault_bytes(alloc: Global, bytes: &[u8]) -> Result<String, RunError>
     ensures { TellsFault result (form bytes.now) (value_in bytes.now) }
 {
-    match first_fault(alloc, bytes)? {
+    match Document::first_fault(alloc, bytes)? {
         None => Ok(String::new(alloc)),
         Some(fault) => Ok(print_fault(alloc, &fault)?),
     }

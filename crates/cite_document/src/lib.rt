@@ -5,6 +5,7 @@
 //! follows, and then a line for each item: its key, a tab and its text.
 #![tactic(auto)]
 
+pub mod document;
 pub mod error;
 pub mod faults;
 pub mod filling;

@@ -96,7 +96,12 @@ fn styles_of_bytes(alloc: Global, bytes: &[u8]) -> Result<Vec<NamedStyle>, ReadE
     styles_of(alloc, object)
 }
 
-fn check_styles(alloc: Global, styles: &[NamedStyle], limits: &Limits) -> Result<(), LimitError>
+/// Whether each layout of each of these styles is within the limits.
+pub(crate) fn check_styles(
+    alloc: Global,
+    styles: &[NamedStyle],
+    limits: &Limits,
+) -> Result<(), LimitError>
     ensures { ChecksEach limits.now (map (λ s. style_view s.style) styles.now) result }
 {
     for named in styles {

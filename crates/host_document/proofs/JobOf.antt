@@ -9,10 +9,10 @@ use Rattle.host_table.specs.declared.key.TaskKey.{TaskKey}
 use Rattle.csl_writers.specs.declared.cite.Cite.{Cite}
 use Rattle.json_document.specs.Form.{Document}
 use Rattle.json_document.specs.declared.rounds.Rounds.{Rounds}
-use Rattle.cite_document.specs.Run.{accepted, document_job, wanted_of}
+use Rattle.cite_document.specs.Run.{accepted, document_job, bibliography_of}
 use Rattle.host_document.specs.Drive.{TellsIn}
 
-module _ (v : Driver PlainEntry Infallible) (w : Wanted PlainEntry) (d : Document) (p : v ≡ record { requests = accepted d.requests; offset = d.offset }) (q : w ≡ wanted_of d) where
+module _ (v : Driver PlainEntry Infallible) (w : Wanted PlainEntry) (d : Document) (p : v ≡ record { requests = accepted d.requests; offset = d.offset }) (q : w ≡ bibliography_of d) where
   abbrev job : Job PlainEntry Infallible
   job = record { wanted = w; requests = v.requests; offset = v.offset }
 

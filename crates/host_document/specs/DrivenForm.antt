@@ -7,7 +7,7 @@ use Rattle.csl_writers.specs.declared.cite.Cite.{Cite}
 use Rattle.json_values.specs.Words.{◌>>=◌, object_with, items_of_key, optional}
 use Rattle.json_styles.specs.Styles.{NamedStyle, style_named}
 use Rattle.json_document.specs.Entries.{entry_form, entry_named}
-use Rattle.json_document.specs.Form.{Document, asked_form, value_in}
+use Rattle.json_document.specs.Form.{Document, asked_form, document_of, value_in}
 use Rattle.json_tasks.specs.WrittenForm.{table_form}
 use Rattle.host_document.specs.DrivenStyles.{driven_styles_form}
 
@@ -24,9 +24,9 @@ written_at styles entries = optional (λ key. None) (table_form styles entries) 
 -- what is asked for, of the styles and entries that names and keys find, and what was written
 unfoldable pub driven_by : List NamedStyle → List PlainEntry → Data → Option DrivenDocument
 driven_by styles entries o = do
-  document ← asked_form (style_named styles) (entry_named entries) [] o
+  asked ← asked_form (style_named styles) (entry_named entries) o
   table ← written_at styles entries o
-  Some (record { document = document; table = table })
+  Some (record { document = document_of [] asked; table = table })
 
 -- an object of the keys of a driven document
 abbrev pub driven_top_form : Data → Option Data

@@ -1,3 +1,4 @@
 pub mod DrivenStyles
 pub mod DrivenForm
 pub mod Drive
+pub mod DrivenView

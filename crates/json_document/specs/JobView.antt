@@ -1,22 +1,23 @@
--- The plain data that the requests of a document stand for, which hold their own texts.
-use Rattle.std.specs.Prelude.{List, None, map, option_map, string_bytes, if◌then◌else◌}
+-- What a `Job` stands for as plain data, with indexes in place of styles and entries.
+use Rattle.std.specs.Prelude.{ℕ, List, map, option_map, string_bytes}
 use Rattle.std.specs.declared.convert.Infallible.{Infallible}
-use Rattle.csl_style_values.specs.StyleView.{code_view, style_view}
-use Rattle.csl_style_values.specs.Style.{LocaleValue}
-use Rattle.csl_values.specs.declared.entry.PlainEntry.{PlainEntry}
-use Rattle.csl_passes.specs.Class.{is_note}
-use Rattle.csl_passes.specs.Request.{RequestedCite, Request}
+use Rattle.csl_style_values.specs.StyleView.{code_view}
+use Rattle.csl_passes.specs.Request.{RequestedCite}
 use Rattle.csl_lookup.specs.Properties.{text_payload, LocatorValue}
+use Rattle.json_document.specs.Form.{Asked}
+use Rattle.json_document.specs.Requests.{RequestOf, WantedOf}
+use Rattle.json_document.specs.declared.document.Job.{Job}
 use Rattle.json_document.specs.declared.requests.AskedCite.{AskedCite}
 use Rattle.json_document.specs.declared.requests.AskedLocator.{AskedLocator}
 use Rattle.json_document.specs.declared.requests.AskedRequest.{AskedRequest}
+use Rattle.json_document.specs.declared.requests.Wanted.{Wanted}
 
 abbrev pub asked_locator_view : AskedLocator → LocatorValue Infallible
 asked_locator_view l = record { kind = l.kind; payload = text_payload (string_bytes l.text) }
 
-abbrev pub asked_cite_view : AskedCite → RequestedCite PlainEntry Infallible
+abbrev pub asked_cite_view : AskedCite → RequestedCite ℕ Infallible
 asked_cite_view c = record {
-  entry = c.entry.now;
+  entry = c.entry;
   locator = option_map asked_locator_view c.locator;
   locale = option_map code_view c.locale;
   hidden = c.hidden;
@@ -25,19 +26,31 @@ asked_cite_view c = record {
   place = 0;
 }
 
-abbrev pub asked_cites_view : List AskedCite → List (RequestedCite PlainEntry Infallible)
+abbrev pub asked_cites_view : List AskedCite → List (RequestedCite ℕ Infallible)
 asked_cites_view = map asked_cite_view
 
--- a request, with these locales; the note number is kept where the style's cites stand in notes
-abbrev pub asked_request_view : List LocaleValue → AskedRequest → Request PlainEntry Infallible
-asked_request_view locales r = record {
-  cites = asked_cites_view r.items.items;
-  style = style_view r.style.now.style.now;
+abbrev pub asked_request_view : AskedRequest → RequestOf ℕ ℕ
+asked_request_view r = record {
+  style = r.style;
   locale = option_map code_view r.locale;
-  locales = locales;
-  note_number = (if is_note r.style.now.style.now.settings.class then r.note_number else None);
+  note_number = r.note_number;
+  cites = asked_cites_view r.items.items;
 }
 
-abbrev pub asked_requests_view : List LocaleValue → List AskedRequest
-    → List (Request PlainEntry Infallible)
-asked_requests_view locales = map (asked_request_view locales)
+abbrev pub asked_requests_view : List AskedRequest → List (RequestOf ℕ ℕ)
+asked_requests_view = map asked_request_view
+
+abbrev pub asked_bibliography_view : Wanted → WantedOf ℕ ℕ
+asked_bibliography_view w = record {
+  style = w.style;
+  locale = option_map code_view w.locale;
+  order = option_map (λ v. v.items) w.order;
+}
+
+abbrev pub asked_view : Job → Asked ℕ ℕ
+asked_view j = record {
+  requests = asked_requests_view j.requests.items;
+  wanted = asked_bibliography_view j.wanted;
+  offset = j.offset;
+  rounds = j.rounds;
+}

@@ -4,8 +4,8 @@ pub mod Entries
 pub mod Rounds
 pub mod Requests
 pub mod Finders
-pub mod WantedView
 pub mod JobView
 pub mod Form
+pub mod Indexes
+pub mod Targets
 pub mod Faults
-pub mod DocumentView

@@ -1,14 +1,11 @@
--- The form of what is asked for, of the styles and entries that names and keys find.
-use Rattle.std.specs.Prelude.{ℕ, List, [], ◌∷◌, Option, Some, None, option_and_then, codes, if◌then◌else◌}
+-- The form of what is asked for, with styles looked up by name and entries by key.
+use Rattle.std.specs.Prelude.{ℕ, List, [], ◌∷◌, Option, Some, None, option_and_then, codes}
 use Rattle.std.specs.declared.convert.Infallible.{Infallible}
 use Rattle.serde_json.specs.Data.{Data, Items, no_items, item}
 use Rattle.serde_json.specs.Find.{as_array, as_str}
-use Rattle.csl_values.specs.declared.entry.PlainEntry.{PlainEntry}
-use Rattle.csl_style_values.specs.Style.{LocaleValue, StyleValue}
-use Rattle.csl_passes.specs.Class.{is_note}
 use Rattle.csl_lookup.specs.Properties.{text_payload, LocatorValue}
 use Rattle.csl_lookup.specs.declared.apart.Apart.{Apart}
-use Rattle.csl_passes.specs.Request.{RequestedCite, Request}
+use Rattle.csl_passes.specs.Request.{RequestedCite}
 use Rattle.json_values.specs.Words.{◌>>=◌, object_with, required, where_present, flag, list_form, items_of_key, whole, name_form}
 use Rattle.json_values.specs.Names.{one_of}
 use Rattle.json_values.specs.Tables.{aparts, locators, purposes}
@@ -32,8 +29,8 @@ apart_form Rounds.Csl d = one_of aparts d
 apart_form _ d = None
 
 -- a cite of an entry
-unfoldable pub item_form : (List ℕ → Option PlainEntry) → Rounds → Data
-    → Option (RequestedCite PlainEntry Infallible)
+unfoldable pub item_form : {E : Type 0} → (List ℕ → Option E) → Rounds → Data
+    → Option (RequestedCite E Infallible)
 item_form entry rounds d = do
   o ← object_with (codes "entry" ∷ codes "locator" ∷ codes "locale" ∷ codes "hidden"
       ∷ codes "purpose" ∷ codes "apart" ∷ []) d
@@ -53,31 +50,35 @@ item_form entry rounds d = do
     place = 0;
   })
 
-module _ (style : List ℕ → Option StyleValue) (entry : List ℕ → Option PlainEntry) where
-  -- a request for a citation, with these locales; the note number is kept where the style's cites
-  -- stand in notes
-  unfoldable pub request_form : Rounds → List LocaleValue → Data
-      → Option (Request PlainEntry Infallible)
-  request_form rounds locales d = do
+-- a request for a citation, of a style and entries, or of their indexes
+pub record RequestOf (S E : Type 0) : Type 0 where
+  pub style : S
+  pub locale : Option (List ℕ)
+  pub note_number : Option ℕ
+  pub cites : List (RequestedCite E Infallible)
+
+-- a request for a bibliography, of a style and entries, or of their indexes
+pub record WantedOf (S E : Type 0) : Type 0 where
+  pub style : S
+  pub locale : Option (List ℕ)
+  pub order : Option (List E)
+
+module _ {S E : Type 0} (style : List ℕ → Option S) (entry : List ℕ → Option E) where
+  -- a request for a citation
+  unfoldable pub request_form : Rounds → Data → Option (RequestOf S E)
+  request_form rounds d = do
     o ← object_with (codes "style" ∷ codes "locale" ∷ codes "note" ∷ codes "items" ∷ []) d
     by ← required (name_form style) (codes "style") o
     locale ← where_present as_str (codes "locale") o
     note ← where_present whole (codes "note") o
     cites ← items_of_key (item_form entry rounds) (codes "items") o
-    Some (record {
-      cites = cites;
-      style = by;
-      locale = locale;
-      locales = locales;
-      note_number = (if is_note by.class then note else None);
-    })
+    Some (record { style = by; locale = locale; note_number = note; cites = cites })
 
   -- what is asked of the bibliography: its style, its locale, and the order of its entries
-  unfoldable pub wanted_form : Data
-      → Option (StyleValue × Option (List ℕ) × Option (List PlainEntry))
+  unfoldable pub wanted_form : Data → Option (WantedOf S E)
   wanted_form d = do
     o ← object_with (codes "style" ∷ codes "locale" ∷ codes "order" ∷ []) d
     by ← required (name_form style) (codes "style") o
     locale ← where_present as_str (codes "locale") o
     order ← where_present (list_form (name_form entry)) (codes "order") o
-    Some (by, locale, order)
+    Some (record { style = by; locale = locale; order = order })

@@ -1,26 +1,25 @@
 //! The document as a whole, and what it asks for.
-ghost use Rattle.std.specs.Prelude.{◌≡◌, IfOk, codes, map};
+ghost use Rattle.std.specs.Prelude.{◌≡◌, IfOk, codes, slice_get};
 ghost use Rattle.serde_json.specs.Read.{read};
 ghost use Rattle.serde_json.specs.View.{view};
-ghost use Rattle.csl_style_values.specs.StyleView.{locale_view};
-ghost use Rattle.json_document.specs.Finders.{entry_in, style_in};
-ghost use Rattle.json_document.specs.FoundView.{found_views};
+ghost use Rattle.json_document.specs.Finders.{text_in};
+ghost use Rattle.json_document.specs.FoundView.{unnamed};
+ghost use Rattle.json_styles.specs.NamedStyleView.{named_styles_view};
 ghost use Rattle.json_styles.specs.Styles.{style_named};
 ghost use Rattle.json_document.specs.Entries.{entry_named};
 ghost use Rattle.json_document.specs.Faults.{FaultsIn, IsOfText, IsTextError, TextFaults};
 ghost use Rattle.json_document.specs.Form.{asked_form, top_form, utf8_text, value_in};
+ghost use Rattle.json_document.specs.Indexes.{ReadsAll, asked_at};
+ghost use Rattle.json_document.specs.JobView.{asked_bibliography_view, asked_view};
 ghost use Rattle.json_document.specs.Requests.{wanted_form};
-ghost use Rattle.json_document.specs.WantedView.{asked_bibliography_view};
 ghost use Rattle.json_values.specs.Words.{required};
-ghost use Rattle.json_document.specs.DocumentView.{document_view};
 ghost use Rattle.json_values.specs.Reads.{Faults, Reads};
 
-use crate::finders::{EntriesByKey, StylesByName, entries_by_key, styles_by_name};
-use crate::found::FoundStyle;
+use crate::finders::{Indexes, entry_indexes, style_indexes};
 use crate::requests::{AskedRequest, Wanted, bibliography_request_of, requests_of};
 use crate::rounds::{Rounds, rounds_of};
 use csl_base::entry::PlainEntry;
-use csl_base::locale::Locale;
+use json_styles::styles::NamedStyle;
 use json_values::error::ReadError;
 use json_values::fault;
 use json_values::fault::{Fault, Found};
@@ -29,13 +28,11 @@ use json_values::words::{number_or, object_with};
 use serde_json::Value;
 use std::alloc::Global;
 
-/// What the document asks for.
+/// What a document asks for. Styles and entries are indexes into those of the document.
 #[derive(Drop)]
-pub struct Job<'e> {
-    pub requests: Vec<AskedRequest<'e>>,
-    pub wanted: Wanted<'e>,
-    /// The locales that are asked for terms that a style doesn't have.
-    pub locales: &'e [Locale],
+pub struct Job {
+    pub requests: Vec<AskedRequest>,
+    pub wanted: Wanted,
     /// The number of the first entry.
     pub offset: usize,
     pub rounds: Rounds,
@@ -127,14 +124,14 @@ pub fn top_of(alloc: Global, value: &Value) -> Result<&Value, ReadError>
 
 /// What is asked of the bibliography, under the key `bibliography`, which has to be there.
 #[tactic(auto, using(json_values::proofs::Ways::fails_outside))]
-fn wanted_at<'e>(
+fn wanted_at(
     alloc: Global,
-    styles: &StylesByName<'e>,
-    entries: &EntriesByKey<'e>,
+    styles: &Indexes<'_>,
+    entries: &Indexes<'_>,
     object: &Value,
-) -> Result<Wanted<'e>, ReadError>
+) -> Result<Wanted, ReadError>
     ensures read { Reads asked_bibliography_view result
-        (required (wanted_form (style_in styles.now) (entry_in entries.now)) (codes "bibliography")
+        (required (wanted_form (text_in styles.now) (text_in entries.now)) (codes "bibliography")
         (view object.now)) }
     ensures fault { Faults result (view object.now) }
 {
@@ -147,28 +144,25 @@ fn wanted_at<'e>(
     }
 }
 
-/// What the document asks for, of the styles and entries that the maps find, with these locales.
+/// What the document asks for; the maps have the indexes of its styles and entries.
 #[tactic(auto, unfolding(crate::specs::Form::asked_form))]
-fn job_of<'e>(
+fn job_of(
     alloc: Global,
-    styles: &StylesByName<'e>,
-    entries: &EntriesByKey<'e>,
-    locales: &'e [Locale],
+    styles: &Indexes<'_>,
+    entries: &Indexes<'_>,
     object: &Value,
-) -> Result<Job<'e>, ReadError>
-    ensures read { Reads document_view result
-        (asked_form (style_in styles.now) (entry_in entries.now) (map locale_view locales.now)
-        (view object.now)) }
+) -> Result<Job, ReadError>
+    ensures read { Reads asked_view result
+        (asked_form (text_in styles.now) (text_in entries.now) (view object.now)) }
     ensures fault { Faults result (view object.now) }
 {
     let rounds = rounds_of(alloc, object)?;
-    let requests = requests_of(alloc, styles, entries, rounds, locales, object)?;
+    let requests = requests_of(alloc, styles, entries, rounds, object)?;
     let wanted = wanted_at(alloc, styles, entries, object)?;
     let offset = number_or(alloc, object, "offset", 0)?;
     Ok(Job {
         requests,
         wanted,
-        locales,
         offset,
         rounds,
     })
@@ -176,19 +170,20 @@ fn job_of<'e>(
 
 /// What the document asks for. A name finds the style of that name, and a key the first entry that
 /// has it.
-pub fn job_in<'e, 's: 'e>(
+pub fn job_in(
     alloc: Global,
-    styles: &'e [FoundStyle<'s>],
-    entries: &'e [PlainEntry],
-    locales: &'e [Locale],
+    styles: &[NamedStyle],
+    entries: &[PlainEntry],
     object: &Value,
-) -> Result<Job<'e>, ReadError>
-    ensures read { Reads document_view result
-        (asked_form (style_named (found_views styles.now)) (entry_named entries.now)
-        (map locale_view locales.now) (view object.now)) }
+) -> Result<Job, ReadError>
+    ensures read { ReadsAll
+        (λ job. asked_at (slice_get entries.now) (slice_get (unnamed styles.now)) (asked_view job))
+        result
+        (asked_form (style_named (named_styles_view styles.now)) (entry_named entries.now)
+        (view object.now)) }
     ensures fault { Faults result (view object.now) }
 {
-    let by_name = styles_by_name(alloc, styles)?;
-    let by_key = entries_by_key(alloc, entries)?;
-    job_of(alloc, &by_name, &by_key, locales, object)
+    let by_name = style_indexes(alloc, styles)?;
+    let by_key = entry_indexes(alloc, entries)?;
+    job_of(alloc, &by_name, &by_key, object)
 }

@@ -1,46 +1,69 @@
-//! Styles found by their names, and entries by their keys.
-ghost use Rattle.std.specs.Prelude.{◌≡◌, IfOk};
+//! Styles found by their names, and entries by their keys; and the styles that a job asks for.
+ghost use Rattle.std.specs.Prelude.{◌≡◌, IfOk, List, Some, option_map, ℕ};
 ghost use Rattle.json_styles.specs.NamedStyleView.{named_styles_view};
 ghost use Rattle.json_styles.specs.Styles.{style_named};
 ghost use Rattle.json_document.specs.Entries.{entry_named};
-ghost use Rattle.json_document.specs.Finders.{entry_in, style_in};
-ghost use Rattle.json_document.specs.FoundView.{found_views};
+ghost use Rattle.json_document.specs.Finders.{found_by};
+ghost use Rattle.json_document.specs.FoundView.{found_views, unnamed};
 
+use crate::document::Job;
 use crate::found::FoundStyle;
 use csl_base::entry::PlainEntry;
 use json_styles::styles::NamedStyle;
-use serde_json::Value;
 use std::alloc::{AllocError, Global};
-use std::collections::{HashMap, HashSet};
+use std::collections::HashMap;
 
-// The name of a style that a request gives, or the bibliography, if it is well formed there.
-fn add_named<'v>(asked_for: &mut HashSet<&'v str>, value: &'v Value) -> Result<(), AllocError> {
-    if let Some(style) = value.get("style") {
-        if let Some(name) = style.as_str() {
-            asked_for.insert(name)?;
+/// Indexes by names.
+pub type Indexes<'e> = HashMap<&'e str, usize>;
+
+/// The indexes of styles by their names. A name finds the first style that has it.
+pub fn style_indexes<'e>(alloc: Global, styles: &'e [NamedStyle]) -> Result<Indexes<'e>, AllocError>
+    ensures { IfOk result (λ m. (name : List ℕ) → found_by m (unnamed styles.now) name
+        ≡ option_map Some (style_named (named_styles_view styles.now) name)) }
+{
+    let mut by_name = HashMap::new(alloc);
+    for (index, named) in styles.iter().enumerate() {
+        let name = named.name.as_str();
+        if !by_name.contains_key(&name) {
+            by_name.insert(name, index)?;
         }
     }
-    Ok(())
+    Ok(by_name)
 }
 
-// The names of styles that the document's requests and its bibliography give.
-fn asked_styles<'v>(alloc: Global, object: &'v Value) -> Result<HashSet<&'v str>, AllocError> {
-    let mut asked_for = HashSet::new(alloc);
-    if let Some(bibliography) = object.get("bibliography") {
-        add_named(&mut asked_for, bibliography)?;
+/// The indexes of entries by their keys. A key finds the first entry that has it.
+pub fn entry_indexes<'e>(
+    alloc: Global,
+    entries: &'e [PlainEntry],
+) -> Result<Indexes<'e>, AllocError>
+    ensures { IfOk result (λ m. (key : List ℕ) → found_by m entries.now key
+        ≡ option_map Some (entry_named entries.now key)) }
+{
+    let mut by_key = HashMap::new(alloc);
+    for (index, entry) in entries.iter().enumerate() {
+        let key = entry.key.as_str();
+        if !by_key.contains_key(&key) {
+            by_key.insert(key, index)?;
+        }
     }
-    if let Some(requests) = object.get("requests") {
-        if let Some(list) = requests.as_array() {
-            for request in list {
-                add_named(&mut asked_for, request)?;
-            }
+    Ok(by_key)
+}
+
+/// For each style, by its index, whether the job asks for it.
+fn asked_styles(alloc: Global, job: &Job, count: usize) -> Result<Vec<bool>, AllocError> {
+    let mut asked_for = vec![in alloc; false; count]?;
+    if let Some(is_asked_for) = asked_for.get_mut(job.wanted.style) {
+        *is_asked_for = true;
+    }
+    for request in &job.requests {
+        if let Some(is_asked_for) = asked_for.get_mut(request.style) {
+            *is_asked_for = true;
         }
     }
     Ok(asked_for)
 }
 
-/// The styles of a document as its requests find them: the first of each name that something in the
-/// document gives is prepared, once.
+/// The styles of a document, in their order: each that the job asks for is prepared, once.
 ///
 /// # Errors
 ///
@@ -48,55 +71,15 @@ fn asked_styles<'v>(alloc: Global, object: &'v Value) -> Result<HashSet<&'v str>
 pub fn found_styles<'e>(
     alloc: Global,
     styles: &'e [NamedStyle],
-    object: &Value,
+    job: &Job,
 ) -> Result<Vec<FoundStyle<'e>>, AllocError>
-    ensures { IfOk result (λ found. found_views found.items ≡ named_styles_view styles.now) }
+    ensures { IfOk result (λ found. found_views found.items ≡ unnamed styles.now) }
 {
-    let mut asked_for = asked_styles(alloc, object)?;
+    let asked_for = asked_styles(alloc, job, styles.len())?;
     let mut found = Vec::with_capacity(alloc, styles.len())?;
-    for named in styles {
-        let is_named = asked_for.remove(named.name.as_str());
-        found.push(FoundStyle::new(alloc, named, is_named)?)?;
+    for (index, named) in styles.iter().enumerate() {
+        let is_asked_for = asked_for.get(index).copied().unwrap_or(false);
+        found.push(FoundStyle::new(alloc, &named.style, is_asked_for)?)?;
     }
     Ok(found)
-}
-
-/// Styles by their names.
-pub type StylesByName<'e> = HashMap<&'e str, &'e FoundStyle<'e>>;
-
-/// The styles by their names. A name finds the first style that has it.
-pub fn styles_by_name<'e, 's: 'e>(
-    alloc: Global,
-    styles: &'e [FoundStyle<'s>],
-) -> Result<StylesByName<'e>, AllocError>
-    ensures { IfOk result (λ m. style_in m ≡ style_named (found_views styles.now)) }
-{
-    let mut by_name = HashMap::new(alloc);
-    for named in styles {
-        let name = named.name;
-        if !by_name.contains_key(&name) {
-            by_name.insert(name, named)?;
-        }
-    }
-    Ok(by_name)
-}
-
-/// Entries by their keys.
-pub type EntriesByKey<'e> = HashMap<&'e str, &'e PlainEntry>;
-
-/// The entries by their keys. A key finds the first entry that has it.
-pub fn entries_by_key<'e>(
-    alloc: Global,
-    entries: &'e [PlainEntry],
-) -> Result<EntriesByKey<'e>, AllocError>
-    ensures { IfOk result (λ m. entry_in m ≡ entry_named entries.now) }
-{
-    let mut by_key = HashMap::new(alloc);
-    for entry in entries {
-        let key = entry.key.as_str();
-        if !by_key.contains_key(&key) {
-            by_key.insert(key, entry)?;
-        }
-    }
-    Ok(by_key)
 }

@@ -1,19 +1,16 @@
-//! A style as the requests of a document find it.
+//! Styles as the requests of a document use them.
 ghost use Rattle.std.specs.Prelude.{◌≡◌, IfOk, IfSome};
 ghost use Rattle.csl_styles.specs.PreparedView.{made_of};
 ghost use Rattle.json_document.specs.Prepared.{IsMadeOf, IsMadeOf-prop};
 
 use csl_base::style::IndependentStyle;
 use csl_styles::prepared::PreparedStyle;
-use json_styles::styles::NamedStyle;
 use std::alloc::{AllocError, Global};
 
-/// A style of a document, prepared where something names it and none of its macros call each other
-/// in a ring.
+/// A style of a document, prepared where something asks for it and none of its macros call each
+/// other in a ring.
 #[derive(Drop)]
 pub struct FoundStyle<'e> {
-    /// Its name in the document.
-    pub name: &'e str,
     /// The style as the document has it.
     pub style: &'e IndependentStyle,
     prepared: Option<PreparedStyle<'e>>,
@@ -21,30 +18,23 @@ pub struct FoundStyle<'e> {
 }
 
 impl<'e> FoundStyle<'e> {
-    ghost use Rattle.json_document.specs.FoundView.{found_view};
-    ghost use Rattle.json_styles.specs.NamedStyleView.{named_style_view};
-
-    /// The style, prepared if something names it and it has no ring.
+    /// The style, prepared if something asks for it and it has no ring.
     pub(crate) fn new(
         alloc: Global,
-        named: &'e NamedStyle,
-        is_named: bool,
+        style: &'e IndependentStyle,
+        is_asked_for: bool,
     ) -> Result<FoundStyle<'e>, AllocError>
-        ensures { IfOk result (λ found. found_view found ≡ named_style_view named.now) }
+        ensures { IfOk result (λ found. found.style.now ≡ style.now) }
     {
-        let name = named.name.as_str();
-        let style = &named.style;
         let plain = FoundStyle {
-            name,
             style,
             prepared: None,
         };
-        if !is_named {
+        if !is_asked_for {
             return Ok(plain);
         }
         match PreparedStyle::new(alloc, style)? {
             Ok(prepared) => Ok(FoundStyle {
-                name,
                 style,
                 prepared: Some(prepared),
             }),

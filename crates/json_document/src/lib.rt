@@ -4,7 +4,6 @@
 pub mod document;
 pub mod entries;
 pub mod finders;
-pub mod first_fault;
 pub mod found;
 pub mod persons;
 pub mod requests;

@@ -1,13 +1,15 @@
 //! Reading what is asked for: citations, and a bibliography.
-ghost use Rattle.std.specs.Prelude.{◌≡◌, Some, codes, map, option_map, string_bytes, IfOk};
+ghost use Rattle.std.specs.Prelude.{◌≡◌, Some, codes, map, option_map, slice_get, string_bytes, IfOk};
 ghost use Rattle.serde_json.specs.Data.{Data, array};
 ghost use Rattle.serde_json.specs.Find.{as_str, at};
 ghost use Rattle.serde_json.specs.View.{view, items_view};
-ghost use Rattle.csl_style_values.specs.StyleView.{code_view, locale_view, style_view};
+ghost use Rattle.csl_style_values.specs.StyleView.{code_view};
 ghost use Rattle.csl_lookup.specs.PropertiesView.{locator_view};
-ghost use Rattle.csl_passes.specs.RequestView.{cite_view, cites_view, entries_view, request_view};
-ghost use Rattle.csl_styles.specs.TablesView.{locales_of};
+ghost use Rattle.csl_passes.specs.RequestView.{cite_view, cites_view, request_view};
+ghost use Rattle.json_document.specs.Form.{request_with};
+ghost use Rattle.json_document.specs.Indexes.{cite_at, each_of};
 ghost use Rattle.json_document.specs.JobView.{
+  asked_bibliography_view,
   asked_cite_view,
   asked_cites_view,
   asked_locator_view,
@@ -22,7 +24,7 @@ ghost use Rattle.json_values.specs.Words.{
   required,
   where_present,
 };
-ghost use Rattle.json_document.specs.Finders.{entry_in, style_in};
+ghost use Rattle.json_document.specs.Finders.{text_in};
 ghost use Rattle.json_document.specs.Requests.{
   apart_form,
   item_form,
@@ -30,16 +32,16 @@ ghost use Rattle.json_document.specs.Requests.{
   request_form,
   wanted_form,
 };
-ghost use Rattle.json_document.specs.WantedView.{asked_bibliography_view};
+ghost use Rattle.json_document.specs.Targets.{files_in, request_in};
 ghost use Rattle.json_values.specs.Names.{one_of};
 ghost use Rattle.json_values.specs.Tables.{locators};
 ghost use Rattle.json_values.specs.Reads.{Faults, IsErrorOf, Reads};
 
-use crate::finders::{EntriesByKey, StylesByName};
+use crate::finders::Indexes;
 use crate::found::FoundStyle;
 use crate::rounds::Rounds;
 use csl_base::entry::PlainEntry;
-use csl_base::locale::{Locale, LocaleCode};
+use csl_base::locale::LocaleCode;
 use csl_base::taxonomy::Locator;
 use csl_lookup::apart::Apart;
 use csl_lookup::locator::{LocatorPayload, SpecificLocator};
@@ -74,8 +76,9 @@ pub struct AskedLocator {
 
 /// A cite of the document. It holds its own texts, so the JSON can be dropped before it is written.
 #[derive(Drop)]
-pub struct AskedCite<'e> {
-    pub entry: &'e PlainEntry,
+pub struct AskedCite {
+    /// The index of its entry.
+    pub entry: usize,
     pub locator: Option<AskedLocator>,
     pub locale: Option<LocaleCode>,
     pub hidden: bool,
@@ -85,41 +88,34 @@ pub struct AskedCite<'e> {
 
 /// A request of the document.
 #[derive(Drop)]
-pub struct AskedRequest<'e> {
-    pub items: Vec<AskedCite<'e>>,
-    pub style: &'e FoundStyle<'e>,
+pub struct AskedRequest {
+    pub items: Vec<AskedCite>,
+    /// The index of its style.
+    pub style: usize,
     pub locale: Option<LocaleCode>,
     pub note_number: Option<usize>,
 }
 
 // ---- cites
 
-/// The entry whose key the value is.
-fn known_entry<'e>(
-    alloc: Global,
-    entries: &EntriesByKey<'e>,
-    value: &Value,
-) -> Result<&'e PlainEntry, ReadError>
-    ensures read { Reads (λ e. e.now) result (name_form (entry_in entries.now) (view value.now)) }
+/// The index of the entry whose key the value is.
+fn known_entry(alloc: Global, entries: &Indexes<'_>, value: &Value) -> Result<usize, ReadError>
+    ensures read { Reads (λ i. i) result (name_form (text_in entries.now) (view value.now)) }
     ensures fault { Faults result (view value.now) }
 {
     let Some(key) = value.as_str() else {
         return Err(unlike(alloc, value, fault::Wanted::Entry));
     };
     match entries.get(&key) {
-        Some(entry) => Ok(*entry),
+        Some(index) => Ok(*index),
         None => Err(unlike(alloc, value, fault::Wanted::Entry)),
     }
 }
 
 #[tactic(auto, using(json_values::proofs::Ways::fails_outside))]
-fn required_entry<'e>(
-    alloc: Global,
-    entries: &EntriesByKey<'e>,
-    value: &Value,
-) -> Result<&'e PlainEntry, ReadError>
-    ensures read { Reads (λ e. e.now) result
-        (required (name_form (entry_in entries.now)) (codes "entry") (view value.now)) }
+fn required_entry(alloc: Global, entries: &Indexes<'_>, value: &Value) -> Result<usize, ReadError>
+    ensures read { Reads (λ i. i) result
+        (required (name_form (text_in entries.now)) (codes "entry") (view value.now)) }
     ensures fault { Faults result (view value.now) }
 {
     match value.get("entry") {
@@ -207,14 +203,14 @@ fn optional_apart(alloc: Global, rounds: Rounds, value: &Value) -> Result<Option
 }
 
 #[tactic(auto, unfolding(crate::specs::Requests::item_form))]
-fn item_of<'e>(
+fn item_of(
     alloc: Global,
-    entries: &EntriesByKey<'e>,
+    entries: &Indexes<'_>,
     rounds: Rounds,
     value: &Value,
-) -> Result<AskedCite<'e>, ReadError>
+) -> Result<AskedCite, ReadError>
     ensures read { Reads asked_cite_view result
-        (item_form (entry_in entries.now) rounds (view value.now)) }
+        (item_form (text_in entries.now) rounds (view value.now)) }
     ensures fault { Faults result (view value.now) }
 {
     let object = object_with(
@@ -239,14 +235,14 @@ fn item_of<'e>(
 }
 
 #[tactic(auto, using(json_values::proofs::Ways::item_there))]
-fn all_cites<'e>(
+fn all_cites(
     alloc: Global,
-    entries: &EntriesByKey<'e>,
+    entries: &Indexes<'_>,
     rounds: Rounds,
     items: &[Value],
-) -> Result<Vec<AskedCite<'e>>, ReadError>
+) -> Result<Vec<AskedCite>, ReadError>
     ensures read { Reads (λ v. asked_cites_view v.items) result
-        (all_items (item_form (entry_in entries.now) rounds) (items_view items.now)) }
+        (all_items (item_form (text_in entries.now) rounds) (items_view items.now)) }
     ensures fault { Faults result (array (items_view items.now)) }
 {
     let mut cites = Vec::with_capacity(alloc, items.len())?;
@@ -261,14 +257,14 @@ fn all_cites<'e>(
 
 /// The cites under the key `items`, which has to be there.
 #[tactic(auto, using(json_values::proofs::Ways::fails_outside))]
-fn cites_at<'e>(
+fn cites_at(
     alloc: Global,
-    entries: &EntriesByKey<'e>,
+    entries: &Indexes<'_>,
     rounds: Rounds,
     object: &Value,
-) -> Result<Vec<AskedCite<'e>>, ReadError>
+) -> Result<Vec<AskedCite>, ReadError>
     ensures read { Reads (λ v. asked_cites_view v.items) result
-        (items_of_key (item_form (entry_in entries.now) rounds) (codes "items") (view object.now)) }
+        (items_of_key (item_form (text_in entries.now) rounds) (codes "items") (view object.now)) }
     ensures fault { Faults result (view object.now) }
 {
     let list = required_list(alloc, object, "items")?;
@@ -290,34 +286,29 @@ fn unknown_style(alloc: Global, value: &Value) -> ReadError
     }
 }
 
-fn required_style<'e>(
-    alloc: Global,
-    styles: &StylesByName<'e>,
-    value: &Value,
-) -> Result<&'e FoundStyle<'e>, ReadError>
-    ensures read { Reads (λ s. style_view s.now.style.now) result
-        (required (name_form (style_in styles.now)) (codes "style") (view value.now)) }
+/// The index of the style whose name is under the key `style`, which has to be there.
+fn required_style(alloc: Global, styles: &Indexes<'_>, value: &Value) -> Result<usize, ReadError>
+    ensures read { Reads (λ i. i) result
+        (required (name_form (text_in styles.now)) (codes "style") (view value.now)) }
     ensures fault { Faults result (view value.now) }
 {
     let name = required_text(alloc, value, "style")?;
     match styles.get(&name) {
-        Some(style) => Ok(*style),
+        Some(index) => Ok(*index),
         None => Err(unknown_style(alloc, value)),
     }
 }
 
 #[tactic(auto, unfolding(crate::specs::Requests::request_form))]
-fn request_of<'e>(
+fn request_of(
     alloc: Global,
-    styles: &StylesByName<'e>,
-    entries: &EntriesByKey<'e>,
+    styles: &Indexes<'_>,
+    entries: &Indexes<'_>,
     rounds: Rounds,
-    locales: &[Locale],
     value: &Value,
-) -> Result<AskedRequest<'e>, ReadError>
-    ensures read { Reads (asked_request_view (map locale_view locales.now)) result
-        (request_form (style_in styles.now) (entry_in entries.now) rounds
-        (map locale_view locales.now) (view value.now)) }
+) -> Result<AskedRequest, ReadError>
+    ensures read { Reads asked_request_view result
+        (request_form (text_in styles.now) (text_in entries.now) rounds (view value.now)) }
     ensures fault { Faults result (view value.now) }
 {
     let object = object_with(alloc, &["style", "locale", "note", "items"], value)?;
@@ -334,23 +325,21 @@ fn request_of<'e>(
 }
 
 #[tactic(auto, using(json_values::proofs::Ways::item_there))]
-fn all_requests<'e>(
+fn all_requests(
     alloc: Global,
-    styles: &StylesByName<'e>,
-    entries: &EntriesByKey<'e>,
+    styles: &Indexes<'_>,
+    entries: &Indexes<'_>,
     rounds: Rounds,
-    locales: &[Locale],
     items: &[Value],
-) -> Result<Vec<AskedRequest<'e>>, ReadError>
-    ensures read { Reads (λ v. asked_requests_view (map locale_view locales.now) v.items) result
-        (all_items (request_form (style_in styles.now) (entry_in entries.now) rounds
-        (map locale_view locales.now))
+) -> Result<Vec<AskedRequest>, ReadError>
+    ensures read { Reads (λ v. asked_requests_view v.items) result
+        (all_items (request_form (text_in styles.now) (text_in entries.now) rounds)
         (items_view items.now)) }
     ensures fault { Faults result (array (items_view items.now)) }
 {
     let mut requests = Vec::with_capacity(alloc, items.len())?;
     for (place, item) in items.iter().enumerate() {
-        match request_of(alloc, styles, entries, rounds, locales, item) {
+        match request_of(alloc, styles, entries, rounds, item) {
             Ok(request) => requests.push(request)?,
             Err(error) => return Err(error.in_item(place)),
         }
@@ -358,23 +347,22 @@ fn all_requests<'e>(
     Ok(requests)
 }
 
-/// The requests of the document, in which works are told apart so.
+/// The requests of the document, in this mode.
 #[tactic(auto, using(json_values::proofs::Ways::fails_outside))]
-pub fn requests_of<'e>(
+pub fn requests_of(
     alloc: Global,
-    styles: &StylesByName<'e>,
-    entries: &EntriesByKey<'e>,
+    styles: &Indexes<'_>,
+    entries: &Indexes<'_>,
     rounds: Rounds,
-    locales: &[Locale],
     object: &Value,
-) -> Result<Vec<AskedRequest<'e>>, ReadError>
-    ensures read { Reads (λ v. asked_requests_view (map locale_view locales.now) v.items) result
-        (items_of_key (request_form (style_in styles.now) (entry_in entries.now) rounds
-        (map locale_view locales.now)) (codes "requests") (view object.now)) }
+) -> Result<Vec<AskedRequest>, ReadError>
+    ensures read { Reads (λ v. asked_requests_view v.items) result
+        (items_of_key (request_form (text_in styles.now) (text_in entries.now) rounds)
+        (codes "requests") (view object.now)) }
     ensures fault { Faults result (view object.now) }
 {
     let list = required_list(alloc, object, "requests")?;
-    match all_requests(alloc, styles, entries, rounds, locales, list) {
+    match all_requests(alloc, styles, entries, rounds, list) {
         Ok(requests) => Ok(requests),
         Err(error) => Err(error.under(alloc, "requests")),
     }
@@ -407,43 +395,82 @@ fn driver_locator(locator: &Option<AskedLocator>) -> Option<SpecificLocator<'_, 
     }
 }
 
-fn driver_item<'r>(alloc: Global, cite: &'r AskedCite<'_>) -> Result<Item<'r>, AllocError>
-    ensures { IfOk result (λ i. cite_view i ≡ asked_cite_view cite.now) }
+fn driver_item<'r>(
+    alloc: Global,
+    entries: &'r [PlainEntry],
+    cite: &'r AskedCite,
+) -> Result<Option<Item<'r>>, AllocError>
+    ensures { IfOk result (λ item. option_map cite_view item
+        ≡ cite_at (slice_get entries.now) (asked_cite_view cite.now)) }
 {
-    let entry: &'r PlainEntry = cite.entry;
+    let Some(entry) = entries.get(cite.entry) else {
+        return Ok(None);
+    };
     let locator = driver_locator(&cite.locator);
     let locale = copied_code(alloc, &cite.locale)?;
     let mut item = CitationItem::new(entry, locator, locale, cite.hidden, cite.purpose);
     item.apart = cite.apart;
-    Ok(item)
+    Ok(Some(item))
 }
 
-fn driver_items<'r>(alloc: Global, cites: &'r [AskedCite<'r>]) -> Result<Vec<Item<'r>>, AllocError>
-    ensures { IfOk result (λ v. cites_view v.items ≡ asked_cites_view cites.now) }
+fn driver_items<'r>(
+    alloc: Global,
+    entries: &'r [PlainEntry],
+    cites: &'r [AskedCite],
+) -> Result<Option<Vec<Item<'r>>>, AllocError>
+    ensures { IfOk result (λ items. option_map (λ v. cites_view v.items) items
+        ≡ each_of (cite_at (slice_get entries.now)) (asked_cites_view cites.now)) }
 {
     let mut items = Vec::with_capacity(alloc, cites.len())?;
     for cite in cites {
-        items.push(driver_item(alloc, cite)?)?;
+        match driver_item(alloc, entries, cite)? {
+            Some(item) => items.push(item)?,
+            None => return Ok(None),
+        }
     }
-    Ok(items)
+    Ok(Some(items))
 }
 
-/// The request that the driver takes, with the locales of these tables.
+/// What the indexes of requests point to, and the tables of the locales that are asked for terms
+/// that a style doesn't have.
+#[derive(Clone, Copy)]
+pub struct Targets<'r, 'f> {
+    pub styles: &'r [FoundStyle<'f>],
+    pub entries: &'r [PlainEntry],
+    pub files: &'r TermTables<'f>,
+}
+
+/// The request that the driver takes; none where an index of it points to nothing.
+///
+/// # Errors
+/// Where memory is refused.
 pub fn driver_request<'r, 'f: 'r>(
     alloc: Global,
-    request: &'r AskedRequest<'f>,
-    files: &'r TermTables<'f>,
-) -> Result<Request<'r>, AllocError>
-    ensures { IfOk result (λ r. request_view r
-        ≡ asked_request_view (map locale_view (locales_of files.now)) request.now) }
+    request: &'r AskedRequest,
+    targets: Targets<'r, 'f>,
+) -> Result<Option<Request<'r>>, AllocError>
+    ensures { IfOk result (λ made. option_map request_view made
+        ≡ option_map (request_with (files_in targets.entry))
+        (request_in targets.entry request.now)) }
 {
-    let items = driver_items(alloc, &request.items)?;
+    let Targets {
+        styles,
+        entries,
+        files,
+    } = targets;
+    let Some(found) = styles.get(request.style) else {
+        return Ok(None);
+    };
+    let Some(items) = driver_items(alloc, entries, &request.items)? else {
+        return Ok(None);
+    };
     let locale = copied_code(alloc, &request.locale)?;
     let note = request.note_number;
-    let locales = files.locales();
-    match request.style.prepared() {
-        Some(prepared) => Ok(CitationRequest::of_prepared(items, prepared, locale, files, note)),
-        None => Ok(CitationRequest::new(items, request.style.style, locale, locales, note)),
+    match found.prepared() {
+        Some(prepared) => Ok(Some(CitationRequest::of_prepared(
+            items, prepared, locale, files, note,
+        ))),
+        None => Ok(Some(CitationRequest::new(items, found.style, locale, files.locales(), note))),
     }
 }
 
@@ -451,42 +478,34 @@ pub fn driver_request<'r, 'f: 'r>(
 
 /// What is asked of the bibliography.
 #[derive(Drop)]
-pub struct Wanted<'e> {
-    /// Its style.
-    pub style: &'e FoundStyle<'e>,
+pub struct Wanted {
+    /// The index of its style.
+    pub style: usize,
     /// The locale of its terms, if the document names one.
     pub locale: Option<LocaleCode>,
-    /// The order of its entries, if the document has one.
-    pub order: Option<Vec<&'e PlainEntry>>,
+    /// The order of its entries, by their indexes, if the document has one.
+    pub order: Option<Vec<usize>>,
 }
 
 #[tactic(auto, using(json_values::proofs::Ways::item_there))]
-fn all_keyed<'e>(
-    alloc: Global,
-    entries: &EntriesByKey<'e>,
-    items: &[Value],
-) -> Result<Vec<&'e PlainEntry>, ReadError>
-    ensures read { Reads (λ v. entries_view v.items) result
-        (all_items (name_form (entry_in entries.now)) (items_view items.now)) }
+fn all_keyed(alloc: Global, entries: &Indexes<'_>, items: &[Value]) -> Result<Vec<usize>, ReadError>
+    ensures read { Reads (λ v. v.items) result
+        (all_items (name_form (text_in entries.now)) (items_view items.now)) }
     ensures fault { Faults result (array (items_view items.now)) }
 {
     let mut found = Vec::new(alloc);
     for (place, item) in items.iter().enumerate() {
         match known_entry(alloc, entries, item) {
-            Ok(entry) => found.push(entry)?,
+            Ok(index) => found.push(index)?,
             Err(error) => return Err(error.in_item(place)),
         }
     }
     Ok(found)
 }
 
-fn order_of<'e>(
-    alloc: Global,
-    entries: &EntriesByKey<'e>,
-    value: &Value,
-) -> Result<Vec<&'e PlainEntry>, ReadError>
-    ensures read { Reads (λ v. entries_view v.items) result
-        (list_form (name_form (entry_in entries.now)) (view value.now)) }
+fn order_of(alloc: Global, entries: &Indexes<'_>, value: &Value) -> Result<Vec<usize>, ReadError>
+    ensures read { Reads (λ v. v.items) result
+        (list_form (name_form (text_in entries.now)) (view value.now)) }
     ensures fault { Faults result (view value.now) }
 {
     let list = list_of(alloc, value)?;
@@ -494,13 +513,13 @@ fn order_of<'e>(
 }
 
 #[tactic(auto, using(json_values::proofs::Ways::fails_outside))]
-fn optional_order<'e>(
+fn optional_order(
     alloc: Global,
-    entries: &EntriesByKey<'e>,
+    entries: &Indexes<'_>,
     value: &Value,
-) -> Result<Option<Vec<&'e PlainEntry>>, ReadError>
-    ensures read { Reads (option_map (λ v. entries_view v.items)) result
-        (where_present (list_form (name_form (entry_in entries.now))) (codes "order")
+) -> Result<Option<Vec<usize>>, ReadError>
+    ensures read { Reads (option_map (λ v. v.items)) result
+        (where_present (list_form (name_form (text_in entries.now))) (codes "order")
         (view value.now)) }
     ensures fault { Faults result (view value.now) }
 {
@@ -515,14 +534,14 @@ fn optional_order<'e>(
 
 /// What is asked of the bibliography, of an object of its own.
 #[tactic(auto, unfolding(crate::specs::Requests::wanted_form))]
-pub fn bibliography_request_of<'e>(
+pub fn bibliography_request_of(
     alloc: Global,
-    styles: &StylesByName<'e>,
-    entries: &EntriesByKey<'e>,
+    styles: &Indexes<'_>,
+    entries: &Indexes<'_>,
     value: &Value,
-) -> Result<Wanted<'e>, ReadError>
+) -> Result<Wanted, ReadError>
     ensures read { Reads asked_bibliography_view result
-        (wanted_form (style_in styles.now) (entry_in entries.now) (view value.now)) }
+        (wanted_form (text_in styles.now) (text_in entries.now) (view value.now)) }
     ensures fault { Faults result (view value.now) }
 {
     let object = object_with(alloc, &["style", "locale", "order"], value)?;

@@ -18,7 +18,7 @@ pub enum Rounds {
     Csl,
 }
 
-/// What a document says of that.
+/// The names of the modes.
 const ROUNDS: &[(&str, Rounds)] = &[
     ("three", Rounds::Mode(RoundMode::Three)),
     ("full", Rounds::Mode(RoundMode::Full)),

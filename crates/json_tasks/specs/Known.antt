@@ -7,7 +7,7 @@ use Rattle.csl_style_values.specs.Style.{StyleValue}
 use Rattle.csl_style_values.specs.StyleView.{style_view}
 use Rattle.csl_values.specs.declared.entry.PlainEntry.{PlainEntry}
 use Rattle.host_table.specs.declared.key.TaskKey.{TaskKey}
-use Rattle.json_document.specs.Finders.{entry_in, text_in}
+use Rattle.json_document.specs.Finders.{text_in}
 use Rattle.json_styles.specs.declared.styles.NamedStyle.{NamedStyle}
 use Rattle.json_values.specs.Words.{◌>>=◌}
 use Rattle.json_tasks.specs.TaskForm.{key_form}
@@ -28,6 +28,11 @@ abbrev pub known_style_in : {S : Type 0} → HashMap (Bor (List ℕ)) (Bor Named
     → Option StyleValue
 known_style_in m name = option_map (λ s. style_view s.now.style) (text_in m name)
 
+-- the entry that a map has at a key
+abbrev pub known_entry_in : {S : Type 0} → HashMap (Bor (List ℕ)) (Bor PlainEntry) S → List ℕ
+    → Option PlainEntry
+known_entry_in m key = option_map (λ e. e.now) (text_in m key)
+
 -- which tasks are of styles and entries that are known
 abbrev pub knows : Known → TaskKey → Bool
-knows known = is_known (known_style_in known.styles) (entry_in known.entries)
+knows known = is_known (known_style_in known.styles) (known_entry_in known.entries)

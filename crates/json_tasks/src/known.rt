@@ -2,10 +2,10 @@
 ghost use Rattle.std.specs.Prelude.{◌≡◌, IfOk};
 ghost use Rattle.json_styles.specs.NamedStyleView.{named_styles_view};
 ghost use Rattle.json_styles.specs.Styles.{style_named};
-ghost use Rattle.json_tasks.specs.Known.{known_style_in};
+ghost use Rattle.json_document.specs.Entries.{entry_named};
+ghost use Rattle.json_tasks.specs.Known.{known_entry_in, known_style_in};
 
 use csl_base::entry::PlainEntry;
-use json_document::finders::{EntriesByKey, entries_by_key};
 use json_styles::styles::NamedStyle;
 use std::alloc::{AllocError, Global};
 use std::collections::HashMap;
@@ -30,6 +30,26 @@ fn styles_by_name<'d>(
     Ok(by_name)
 }
 
+/// Entries by their keys.
+type EntriesByKey<'d> = HashMap<&'d str, &'d PlainEntry>;
+
+/// The entries by their keys. A key finds the first entry that has it.
+fn entries_by_key<'d>(
+    alloc: Global,
+    entries: &'d [PlainEntry],
+) -> Result<EntriesByKey<'d>, AllocError>
+    ensures { IfOk result (λ m. known_entry_in m ≡ entry_named entries.now) }
+{
+    let mut by_key = HashMap::new(alloc);
+    for entry in entries {
+        let key = entry.key.as_str();
+        if !by_key.contains_key(&key) {
+            by_key.insert(key, entry)?;
+        }
+    }
+    Ok(by_key)
+}
+
 /// The styles and the entries of a document, which its tasks may name.
 #[derive(Drop)]
 pub(crate) struct Known<'d> {
@@ -42,8 +62,7 @@ impl<'d> Known<'d> {
     ghost use Rattle.json_styles.specs.NamedStyleView.{named_styles_view};
     ghost use Rattle.json_styles.specs.Styles.{style_named};
     ghost use Rattle.json_document.specs.Entries.{entry_named};
-    ghost use Rattle.json_document.specs.Finders.{entry_in};
-    ghost use Rattle.json_tasks.specs.Known.{is_known, knows, known_style_in};
+    ghost use Rattle.json_tasks.specs.Known.{is_known, knows, known_entry_in, known_style_in};
 
     /// What tasks may name where these are the styles and the entries.
     pub(crate) fn new(
@@ -69,7 +88,7 @@ impl<'d> Known<'d> {
 
     /// Whether there is an entry of this key.
     pub(crate) fn has_entry(&self, key: &str) -> bool
-        ensures { result ≡ is_some (entry_in self.now.entries key.now) }
+        ensures { result ≡ is_some (known_entry_in self.now.entries key.now) }
     {
         self.entries.contains_key(&key)
     }

@@ -5,13 +5,13 @@ use crate::equality::{print_copies, print_requests, print_wanted, properties_dif
 use crate::free::calls_without_memory;
 use crate::passes::by_passes;
 use crate::streams::{Failing, Slow};
+use cite_document::document::Document;
 use cite_document::error::RunError;
 use cite_document::faults::print_fault_bytes;
-use cite_document::filling::bibliography_request;
+use cite_document::filling::{bibliography_order, bibliography_request};
 use cite_document::input::read_input;
 use cite_document::running::run;
 use csl_base::entry::PlainEntry;
-use csl_base::locale::Locale;
 use csl_driver::account::Account;
 use csl_driver::driver::BibliographyDriver;
 use csl_driver::error::{CitationRefused, DriverError};
@@ -20,14 +20,11 @@ use csl_driver::request::{BibliographyRequest, CitationRequest};
 use csl_driver::standalone::standalone_citation;
 use csl_driver::terms::TermTables;
 use csl_round_laws::mode::RoundMode;
-use json_document::document::{Job, job_in, top_of, utf8_text, value_of};
-use json_document::entries::entries_of;
+use json_document::document::utf8_text;
 use json_document::finders::found_styles;
-use json_document::requests::{AskedCite, AskedRequest, driver_request};
+use json_document::found::FoundStyle;
+use json_document::requests::{AskedRequest, Targets, driver_request};
 use json_document::rounds::Rounds;
-use json_styles::locales::locales_at;
-use json_styles::styles::{NamedStyle, styles_of};
-use serde_json::Value;
 use std::alloc::{AllocError, Global};
 use std::convert::Infallible;
 
@@ -69,6 +66,13 @@ pub enum Seen {
     Amiss(&'static str),
 }
 
+/// A document, and what the indexes of its job point to.
+#[derive(Clone, Copy)]
+struct Asking<'d, 'f> {
+    document: &'d Document,
+    targets: Targets<'d, 'f>,
+}
+
 type Driver<'e> = BibliographyDriver<'e, PlainEntry, Infallible>;
 
 pub(crate) type Request<'e> = CitationRequest<'e, PlainEntry, Infallible>;
@@ -94,14 +98,26 @@ fn take_again<'e>(driver: &mut Driver<'e>, request: Request<'e>) -> Result<bool,
     }
 }
 
+/// A request for the driver, of the prepared style if there is one.
+fn prepared_request<'e, 'f: 'e>(
+    alloc: Global,
+    request: &'e AskedRequest,
+    targets: Targets<'e, 'f>,
+) -> Result<Request<'e>, RunError> {
+    match driver_request(alloc, request, targets)? {
+        Some(made) => Ok(made),
+        None => Err(RunError::Document),
+    }
+}
+
 /// A request for the driver: of the prepared style, if there is one, or of the style itself.
 fn request_of<'e, 'f: 'e>(
     alloc: Global,
-    request: &'e AskedRequest<'f>,
-    files: &'e TermTables<'f>,
+    request: &'e AskedRequest,
+    targets: Targets<'e, 'f>,
     is_prepared: bool,
-) -> Result<Request<'e>, AllocError> {
-    let made = driver_request(alloc, request, files)?;
+) -> Result<Request<'e>, RunError> {
+    let made = prepared_request(alloc, request, targets)?;
     Ok(if is_prepared { made } else { made.unprepared() })
 }
 
@@ -109,14 +125,13 @@ fn request_of<'e, 'f: 'e>(
 fn take_all<'e, 'f: 'e>(
     rt: &(impl Print + Eprint + AllocGlobal),
     driver: &mut Driver<'e>,
-    job: &'e Job<'f>,
-    files: &'e TermTables<'f>,
+    asking: Asking<'e, 'f>,
     is_prepared: bool,
 ) -> Result<bool, RunError> {
     let mut came_back = false;
-    for request in &job.requests {
+    for request in &asking.document.job.requests {
         let _ = eprintln!(rt; "prepare");
-        let made = request_of(rt.alloc(), request, files, is_prepared)?;
+        let made = request_of(rt.alloc(), request, asking.targets, is_prepared)?;
         let _ = eprintln!(rt; "citation");
         came_back |= take(driver, made)?;
     }
@@ -125,13 +140,14 @@ fn take_all<'e, 'f: 'e>(
 
 /// What the driver is asked of the bibliography: of the prepared style, if there is one, or of the
 /// style itself.
-fn wanted_of<'o, 'e>(
+fn bibliography_asked<'o, 'e, 'f: 'e>(
     alloc: Global,
-    job: &'o Job<'e>,
-    files: &'o TermTables<'e>,
+    asking: Asking<'e, 'f>,
+    order: &'o Option<Vec<&'e PlainEntry>>,
     is_prepared: bool,
-) -> Result<BibliographyRequest<'o, 'e, PlainEntry>, AllocError> {
-    let made = bibliography_request(alloc, job, files)?;
+) -> Result<BibliographyRequest<'o, 'e, PlainEntry>, RunError> {
+    let wanted = &asking.document.job.wanted;
+    let made = bibliography_request(alloc, wanted, order, asking.targets)?;
     Ok(if is_prepared { made } else { made.unprepared() })
 }
 
@@ -287,16 +303,17 @@ fn print_asked<'e>(
 /// Hands in all requests and the bibliography's, and prints what is asked for.
 fn answer_all<'e, 'f: 'e>(
     rt: &(impl Print + Eprint + AllocGlobal),
-    job: &'e Job<'f>,
-    files: &'e TermTables<'f>,
+    asking: Asking<'e, 'f>,
     how: How,
 ) -> Result<Seen, RunError> {
     let alloc = rt.alloc();
+    let job = &asking.document.job;
     let mut driver = Driver::new(alloc).with_citation_number_offset(job.offset);
     let is_prepared = !matches!(how, How::FinishUnprepared);
-    let came_back = take_all(rt, &mut driver, job, files, is_prepared)?;
+    let came_back = take_all(rt, &mut driver, asking, is_prepared)?;
     let _ = eprintln!(rt; "prepare");
-    let request = wanted_of(alloc, job, files, is_prepared)?;
+    let order = bibliography_order(alloc, &job.wanted, asking.targets.entries)?;
+    let request = bibliography_asked(alloc, asking, &order, is_prepared)?;
     print_asked(rt, driver, request, job.rounds, how)?;
     if came_back {
         Ok(Seen::AnswerAtLast)
@@ -308,12 +325,11 @@ fn answer_all<'e, 'f: 'e>(
 /// Answers each request by itself.
 fn answer_alone<'e, 'f: 'e>(
     rt: &(impl Print + Eprint + AllocGlobal),
-    job: &'e Job<'f>,
-    files: &'e TermTables<'f>,
+    asking: Asking<'e, 'f>,
 ) -> Result<Seen, RunError> {
-    for request in &job.requests {
+    for request in &asking.document.job.requests {
         let _ = eprintln!(rt; "prepare");
-        let made = driver_request(rt.alloc(), request, files)?;
+        let made = prepared_request(rt.alloc(), request, asking.targets)?;
         let _ = eprintln!(rt; "standalone_citation");
         let tree = standalone_citation(rt.alloc(), made)?;
         let _ = println!(rt; "{tree}");
@@ -324,35 +340,42 @@ fn answer_alone<'e, 'f: 'e>(
 /// The requests of a document.
 fn requests_of<'e, 'f: 'e>(
     alloc: Global,
-    job: &'e Job<'f>,
-    files: &'e TermTables<'f>,
+    asking: Asking<'e, 'f>,
 ) -> Result<Vec<Request<'e>>, RunError> {
     let mut requests = Vec::new(alloc);
-    for request in &job.requests {
-        requests.push(driver_request(alloc, request, files)?)?;
+    for request in &asking.document.job.requests {
+        requests.push(prepared_request(alloc, request, asking.targets)?)?;
     }
     Ok(requests)
 }
 
-/// The first cite of the first request.
-fn first_cite<'r, 'f>(job: &'r Job<'f>) -> Option<&'r AskedCite<'f>> {
-    match job.requests.as_slice().first() {
-        Some(request) => request.items.as_slice().first(),
+/// The entry of the first cite of the first request.
+fn first_entry(document: &Document) -> Option<&PlainEntry> {
+    match document.job.requests.as_slice().first() {
+        Some(request) => match request.items.as_slice().first() {
+            Some(cite) => document.entries.get(cite.entry),
+            None => None,
+        },
         None => None,
     }
+}
+
+/// The style of the bibliography.
+fn wanted_style<'d, 'f>(asking: Asking<'d, 'f>) -> Option<&'d FoundStyle<'f>> {
+    asking.targets.styles.get(asking.document.job.wanted.style)
 }
 
 /// Makes calls that take no memory.
 fn call_free(
     rt: &(impl Print + Eprint + AllocGlobal),
-    job: &Job<'_>,
+    asking: Asking<'_, '_>,
     requests: &[Request<'_>],
 ) -> Result<Seen, RunError> {
-    let Some(cite) = first_cite(job) else {
+    let document = asking.document;
+    let (Some(entry), Some(found)) = (first_entry(document), wanted_style(asking)) else {
         return Err(RunError::Document);
     };
-    let style = job.wanted.style.style;
-    if calls_without_memory(rt, requests, style, cite.entry, job.locales)? {
+    if calls_without_memory(rt, requests, found.style, entry, &document.locales)? {
         Ok(Seen::Answer)
     } else {
         Ok(Seen::Amiss("a call that takes no memory gave what it may not"))
@@ -363,13 +386,14 @@ fn call_free(
 /// with one for its style alone.
 fn compare<'e, 'f: 'e>(
     rt: &(impl Print + AllocGlobal),
-    job: &'e Job<'f>,
-    files: &'e TermTables<'f>,
+    asking: Asking<'e, 'f>,
     requests: &[Request<'e>],
 ) -> Result<Seen, RunError> {
     print_copies(rt, requests)?;
     print_requests(rt, requests);
-    let wanted = bibliography_request(rt.alloc(), job, files)?;
+    let alloc = rt.alloc();
+    let order = bibliography_order(alloc, &asking.document.job.wanted, asking.targets.entries)?;
+    let wanted = bibliography_asked(alloc, asking, &order, true)?;
     print_wanted(rt, &wanted);
     drop(wanted);
     if properties_differ() {
@@ -382,69 +406,44 @@ fn compare<'e, 'f: 'e>(
 /// Makes calls on the requests, and answers none.
 fn call_with_requests<'e, 'f: 'e>(
     rt: &(impl Print + Eprint + AllocGlobal),
-    job: &'e Job<'f>,
-    files: &'e TermTables<'f>,
+    asking: Asking<'e, 'f>,
     how: How,
 ) -> Result<Seen, RunError> {
-    let requests = requests_of(rt.alloc(), job, files)?;
+    let requests = requests_of(rt.alloc(), asking)?;
     match how {
         How::Passes => by_passes(rt, &requests),
-        How::Equality => compare(rt, job, files, &requests),
-        _ => call_free(rt, job, &requests),
-    }
-}
-
-/// Does it with what the document asks for, and the tables of its locales.
-fn answered_over<'e, 'f: 'e>(
-    rt: &(impl Print + Eprint + AllocGlobal),
-    job: &'e Job<'f>,
-    files: &'e TermTables<'f>,
-    how: How,
-) -> Result<Seen, RunError> {
-    match how {
-        How::Alone => answer_alone(rt, job, files),
-        How::Passes | How::Equality | How::Free => call_with_requests(rt, job, files, how),
-        _ => answer_all(rt, job, files, how),
+        How::Equality => compare(rt, asking, &requests),
+        _ => call_free(rt, asking, &requests),
     }
 }
 
 /// Does it with what the document asks for.
-fn answered_job(
+fn answered_over<'e, 'f: 'e>(
     rt: &(impl Print + Eprint + AllocGlobal),
-    job: &Job<'_>,
+    asking: Asking<'e, 'f>,
     how: How,
 ) -> Result<Seen, RunError> {
-    let files = TermTables::new(rt.alloc(), job.locales)?;
-    answered_over(rt, job, &files, how)
+    match how {
+        How::Alone => answer_alone(rt, asking),
+        How::Passes | How::Equality | How::Free => call_with_requests(rt, asking, how),
+        _ => answer_all(rt, asking, how),
+    }
 }
 
-/// Does it with what the value asks for, of these styles, entries and locales.
-fn answered_of(
+/// Does it with a document that was read.
+fn answered_document(
     rt: &(impl Print + Eprint + AllocGlobal),
-    object: &Value,
-    styles: &[NamedStyle],
-    entries: &[PlainEntry],
-    locales: &[Locale],
+    document: &Document,
     how: How,
 ) -> Result<Seen, RunError> {
-    let found = found_styles(rt.alloc(), styles, object)?;
-    let job = job_in(rt.alloc(), &found, entries, locales, object)?;
-    let seen = answered_job(rt, &job, how);
-    drop(job);
-    seen
-}
-
-/// Does it with the value of a document.
-fn answered_in(
-    rt: &(impl Print + Eprint + AllocGlobal),
-    value: &Value,
-    how: How,
-) -> Result<Seen, RunError> {
-    let object = top_of(rt.alloc(), value)?;
-    let styles = styles_of(rt.alloc(), object)?;
-    let locales = locales_at(rt.alloc(), object, "locales")?;
-    let entries = entries_of(rt.alloc(), object)?;
-    answered_of(rt, object, &styles, &entries, &locales, how)
+    let found = found_styles(rt.alloc(), &document.styles, &document.job)?;
+    let files = TermTables::new(rt.alloc(), &document.locales)?;
+    let targets = Targets {
+        styles: &found,
+        entries: &document.entries,
+        files: &files,
+    };
+    answered_over(rt, Asking { document, targets }, how)
 }
 
 /// Does what is asked with the document.
@@ -454,9 +453,9 @@ pub fn answered(
     how: How,
 ) -> Result<Seen, RunError> {
     let _ = eprintln!(rt; "prepare");
-    let value = value_of(rt.alloc(), document)?;
-    let seen = answered_in(rt, &value, how);
-    drop(value);
+    let document = Document::parse(rt.alloc(), document.as_bytes())?;
+    let seen = answered_document(rt, &document, how);
+    drop(document);
     seen
 }
 

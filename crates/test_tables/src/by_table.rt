@@ -10,24 +10,21 @@ use crate::printing::print_answer;
 use crate::recording::Recorder;
 use crate::seen::Seen;
 use crate::taking::take_each_out;
+use cite_document::document::Document;
 use cite_document::error::RunError;
-use cite_document::filling::{bibliography_request, filled_driver};
+use cite_document::filling::{bibliography_order, bibliography_request, filled_driver};
 use csl_base::entry::PlainEntry;
-use csl_base::locale::Locale;
 use csl_driver::request::BibliographyRequest;
 use csl_driver::terms::TermTables;
 use csl_writers::writer::CiteWriter;
 use csl_writing::layout_writer::LayoutWriter;
 use host_driver::drive::{Driven, drive, drive_csl};
 use host_table::table::Table;
-use json_document::document::{Job, job_in, top_of, value_of};
-use json_document::entries::entries_of;
+use json_document::document::Job;
 use json_document::finders::found_styles;
-use json_document::found::FoundStyle;
+use json_document::requests::Targets;
 use json_document::rounds::Rounds;
-use json_styles::locales::locales_at;
-use json_styles::styles::{NamedStyle, styles_of};
-use serde_json::Value;
+use json_styles::styles::NamedStyle;
 use std::alloc::{AllocError, Global};
 use std::convert::Infallible;
 
@@ -44,83 +41,69 @@ pub enum TableWay {
     Filled(usize),
 }
 
-/// What a document asks for, with the tables of its locales.
+/// What a document asks for, with what its indexes point to.
 #[derive(Drop)]
 pub struct Asking<'a, 'e> {
     pub alloc: Global,
-    pub job: &'a Job<'e>,
-    pub files: &'a TermTables<'e>,
+    pub job: &'a Job,
+    pub targets: Targets<'a, 'e>,
 }
 
 /// What is read of a document once.
 #[derive(Drop)]
 struct Parts<'d> {
     alloc: Global,
-    object: &'d Value,
-    /// As the document has them.
-    styles: &'d [NamedStyle],
-    /// With names in place of layouts.
+    document: &'d Document,
+    /// Its styles, with names in place of layouts.
     hosts: &'d [NamedStyle],
-    entries: &'d [PlainEntry],
-    locales: &'d [Locale],
+}
+
+impl<'a, 'e: 'a> Asking<'a, 'e> {
+    /// The driver that has taken the requests.
+    pub fn driver(&self) -> Result<Driver<'a>, RunError> {
+        filled_driver(
+            self.alloc,
+            &self.job.requests,
+            self.targets,
+            self.job.offset,
+        )
+    }
+
+    /// The order of the bibliography.
+    pub fn order(&self) -> Result<Option<Vec<&'a PlainEntry>>, RunError> {
+        bibliography_order(self.alloc, &self.job.wanted, self.targets.entries)
+    }
 }
 
 /// Does it with the document.
 pub fn by_table(
     rt: &(impl Print + Eprint + AllocGlobal),
-    document: &str,
+    text: &str,
     way: TableWay,
 ) -> Result<Seen, RunError> {
     let _ = eprintln!(rt; "prepare");
-    let value = value_of(rt.alloc(), document)?;
-    let seen = answered_in(rt, rt.alloc(), &value, way);
-    drop(value);
+    let document = Document::parse(rt.alloc(), text.as_bytes())?;
+    let hosts = host_styles(rt.alloc(), text);
+    let seen = with_hosts(rt, rt.alloc(), &document, hosts, way);
+    drop(document);
     seen
 }
 
-fn answered_in(
-    rt: &(impl Print + Eprint),
-    alloc: Global,
-    value: &Value,
-    way: TableWay,
-) -> Result<Seen, RunError> {
-    let object = top_of(alloc, value)?;
-    let styles = styles_of(alloc, object)?;
-    let hosts = host_styles(alloc, object)?;
-    with_styles(rt, alloc, object, &styles, &hosts, way)
-}
-
 /// Does it with the styles of the document and with those of a host.
-fn with_styles(
+fn with_hosts(
     rt: &(impl Print + Eprint),
     alloc: Global,
-    object: &Value,
-    styles: &[NamedStyle],
-    hosts: &[NamedStyle],
+    document: &Document,
+    hosts: Result<Vec<NamedStyle>, RunError>,
     way: TableWay,
 ) -> Result<Seen, RunError> {
-    let entries = entries_of(alloc, object)?;
-    let locales = locales_at(alloc, object, "locales")?;
+    let hosts = hosts?;
     let parts = Parts {
         alloc,
-        object,
-        styles,
-        hosts,
-        entries: &entries,
-        locales: &locales,
+        document,
+        hosts: &hosts,
     };
     by_layouts(rt, &parts, way)
-}
-
-/// What the document asks for in these of its styles.
-fn job_of<'e, 's: 'e>(parts: &Parts<'e>, found: &'e [FoundStyle<'s>]) -> Result<Job<'e>, RunError> {
-    Ok(job_in(
-        parts.alloc,
-        found,
-        parts.entries,
-        parts.locales,
-        parts.object,
-    )?)
 }
 
 /// Answers it in the styles as they are.
@@ -129,24 +112,17 @@ fn by_layouts(
     parts: &Parts<'_>,
     way: TableWay,
 ) -> Result<Seen, RunError> {
-    let found = found_styles(parts.alloc, parts.styles, parts.object)?;
-    let job = job_of(parts, &found)?;
-    let seen = asked_by_layouts(rt, parts, &job, way);
-    drop(job);
-    seen
-}
-
-fn asked_by_layouts(
-    rt: &(impl Print + Eprint),
-    parts: &Parts<'_>,
-    job: &Job<'_>,
-    way: TableWay,
-) -> Result<Seen, RunError> {
-    let files = TermTables::new(parts.alloc, job.locales)?;
+    let document = parts.document;
+    let found = found_styles(parts.alloc, &document.styles, &document.job)?;
+    let files = TermTables::new(parts.alloc, &document.locales)?;
     let asking = Asking {
         alloc: parts.alloc,
-        job,
-        files: &files,
+        job: &document.job,
+        targets: Targets {
+            styles: &found,
+            entries: &document.entries,
+            files: &files,
+        },
     };
     match way {
         TableWay::Finished(times) => finish_often(&asking, times),
@@ -168,8 +144,9 @@ fn answered_by<'a, W: CiteWriter<PlainEntry, Infallible, Error = AllocError>>(
     writer: &mut W,
 ) -> Result<Answer<'a>, RunError> {
     let job = asking.job;
-    let driver = filled_driver(asking.alloc, &job.requests, asking.files, job.offset)?;
-    let request = bibliography_request(asking.alloc, job, asking.files)?;
+    let driver = asking.driver()?;
+    let order = asking.order()?;
+    let request = bibliography_request(asking.alloc, &job.wanted, &order, asking.targets)?;
     Ok(finished_with(driver, request, job.rounds, writer)?)
 }
 
@@ -181,7 +158,7 @@ fn recorded(
     way: TableWay,
 ) -> Result<Seen, RunError> {
     let _ = eprintln!(rt; "finish_with");
-    let mut recorder = Recorder::new(parts.alloc, parts.styles);
+    let mut recorder = Recorder::new(parts.alloc, &parts.document.styles);
     let seen = recorded_by(rt, parts, asking, &mut recorder, way);
     drop(recorder);
     seen
@@ -209,26 +186,17 @@ fn by_hosts(
     way: TableWay,
 ) -> Result<Seen, RunError> {
     let _ = eprintln!(rt; "prepare");
-    let found = found_styles(parts.alloc, parts.hosts, parts.object)?;
-    let job = job_of(parts, &found)?;
-    let seen = asked_by_hosts(rt, parts.alloc, &job, answer, table, way);
-    drop(job);
-    seen
-}
-
-fn asked_by_hosts(
-    rt: &(impl Print + Eprint),
-    alloc: Global,
-    job: &Job<'_>,
-    answer: &Answer<'_>,
-    table: &mut Table,
-    way: TableWay,
-) -> Result<Seen, RunError> {
-    let files = TermTables::new(alloc, job.locales)?;
+    let document = parts.document;
+    let found = found_styles(parts.alloc, parts.hosts, &document.job)?;
+    let files = TermTables::new(parts.alloc, &document.locales)?;
     let asking = Asking {
-        alloc,
-        job,
-        files: &files,
+        alloc: parts.alloc,
+        job: &document.job,
+        targets: Targets {
+            styles: &found,
+            entries: &document.entries,
+            files: &files,
+        },
     };
     from_table(rt, &asking, answer, table, way)
 }
@@ -282,8 +250,9 @@ fn fill_often(
 /// What comes of the table.
 pub fn driven<'a>(asking: &Asking<'a, '_>, table: &Table) -> Result<Driven<Costs<'a>>, RunError> {
     let job = asking.job;
-    let driver = filled_driver(asking.alloc, &job.requests, asking.files, job.offset)?;
-    let request = bibliography_request(asking.alloc, job, asking.files)?;
+    let driver = asking.driver()?;
+    let order = asking.order()?;
+    let request = bibliography_request(asking.alloc, &job.wanted, &order, asking.targets)?;
     match job.rounds {
         Rounds::Mode(mode) => {
             let driven = drive(asking.alloc, driver, request, mode, table)?;

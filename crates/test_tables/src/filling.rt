@@ -4,7 +4,7 @@ use crate::by_table::Asking;
 use crate::costs::{Answer, Costs, Driver, calls_at_most, is_same};
 use crate::seen::Seen;
 use cite_document::error::RunError;
-use cite_document::filling::{bibliography_request, filled_driver};
+use cite_document::filling::bibliography_request;
 use csl_base::elem::ElemChildren;
 use csl_base::entry::PlainEntry;
 use csl_driver::request::BibliographyRequest;
@@ -107,8 +107,9 @@ pub fn fill_from(
     answer: &Answer<'_>,
 ) -> Result<Seen, RunError> {
     let job = asking.job;
-    let driver = filled_driver(asking.alloc, &job.requests, asking.files, job.offset)?;
-    let request = bibliography_request(asking.alloc, job, asking.files)?;
+    let driver = asking.driver()?;
+    let order = asking.order()?;
+    let request = bibliography_request(asking.alloc, &job.wanted, &order, asking.targets)?;
     let source = WrittenBefore { table: whole };
     let filled = filled(asking, &driver, &request, calls_at_most(&answer.1), &source);
     drop(request);

@@ -3,8 +3,8 @@
 use cite_document::error::RunError;
 use csl_base::style::{Bibliography, IndependentStyle};
 use host_table::host_style::named;
+use json_document::document::value_of;
 use json_styles::styles::{NamedStyle, styles_of};
-use serde_json::Value;
 use std::alloc::{AllocError, Global};
 
 /// Puts the name in the place of the elements of the layouts.
@@ -17,8 +17,11 @@ fn hide_layouts(alloc: Global, style: &mut IndependentStyle, name: &str) -> Resu
 }
 
 /// The styles of the document, each with its name in place of its layouts.
-pub fn host_styles(alloc: Global, object: &Value) -> Result<Vec<NamedStyle>, RunError> {
-    let mut styles = styles_of(alloc, object)?;
+pub fn host_styles(alloc: Global, document: &str) -> Result<Vec<NamedStyle>, RunError> {
+    let value = value_of(alloc, document)?;
+    let styles = styles_of(alloc, &value);
+    drop(value);
+    let mut styles = styles?;
     for named in styles.iter_mut() {
         hide_layouts(alloc, &mut named.style, named.name.as_str())?;
     }

@@ -4,8 +4,8 @@ use Rattle.std.proofs.lemmas.Map.Text.{hash_map_updates_str}
 use Rattle.json_document.specs.Entries.{entry_named}
 use Rattle.json_document.specs.Finders.{text_in}
 use Rattle.json_document.proofs.FirstKeyed.{found-itself, kept_at, added_at}
-use Rattle.json_document.proofs.finders.entries_by_key.Goals as goal
-use Rattle.json_document.proofs.finders.entries_by_key.Goals.{then-not-contains_key+in_ok-insert, else-not-contains_key}
+use Rattle.json_tasks.proofs.known.entries_by_key.Goals as goal
+use Rattle.json_tasks.proofs.known.entries_by_key.Goals.{then-not-contains_key+in_ok-insert, else-not-contains_key}
 
 pub loop-entry-preserved : goal.loop-entry-preserved
 loop-entry-preserved c =
