@@ -5,10 +5,8 @@ use Rattle.std.proofs.lemmas.List.{take_all}
 use Rattle.std.proofs.lemmas.List.Elements.{All-more}
 use Rattle.std.proofs.lemmas.Option.{slice_get-get_or}
 use Rattle.csl_style_values.specs.Ring.{HasNoRing, IsFirstRing}
-use Rattle.csl_style_values.specs.Style.{StyleValue}
 use Rattle.csl_passes.specs.Request.{Request}
-use Rattle.csl_driver.specs.Rings.{NoRingIn, IsFirstRingOf}
-use Rattle.csl_driver.specs.declared.error.RingLocation.TheVariants as places
+use Rattle.csl_driver.specs.Rings.{NoRingIn, IsFirstRingAt}
 
 module _ {E P : Type 0} where
   module _ {X : Type 0} (view : X → Request E P) (xs : List X) (k : ℕ) (x : X) (within : k < length xs) (here : x ≡ get_or xs k x) where
@@ -28,9 +26,8 @@ module _ {E P : Type 0} where
     no_ring-at h = subst (λ r. HasNoRing r.style.macros) at_view (h k (view x) within_view)
 
     -- the first request that has a ring
-    pub first_ring : (style : StyleValue) (i : ℕ) → IsFirstRing (view x).style.macros (Some i) → NoRingIn (take k (map view xs))
-        → IsFirstRingOf (map view xs) style (places.Request k) i
-    first_ring style i first before = (view x, slice_get-get_or (map view xs) k (view x) within_view ∙ ap Some at_view, before, first)
+    pub first_ring : (i : ℕ) → IsFirstRing (view x).style.macros (Some i) → NoRingIn (take k (map view xs)) → IsFirstRingAt (map view xs) k i
+    first_ring i first before = (view x, slice_get-get_or (map view xs) k (view x) within_view ∙ ap Some at_view, before, first)
 
   -- no request has a ring
   pub no_ring-all : (rs : List (Request E P)) (k : ℕ) → length rs ≤ k → NoRingIn (take k rs) → NoRingIn rs

@@ -36,8 +36,9 @@ module _ {E P : Type 0} (eq : E → E → Bool) where
   -- those of the cites in their final order
   abbrev pub numbered_finally : Option (List E) → List (Request E P)
       → List (CiteRender E P) → List E
-  numbered_finally None requests cites = distinct eq (cited_finally cites)
-  numbered_finally (Some order) requests cites = bibliography_order eq (Some order) (cited requests)
+  numbered_finally used requests cites =
+      if is_some used then bibliography_order eq used (cited requests)
+      else distinct eq (cited_finally cites)
 
 module _ {E P : Type 0} (writing : Writing E P) where
   -- the answer to the r-th request, from its cites as they stand in the end

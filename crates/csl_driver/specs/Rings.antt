@@ -19,12 +19,17 @@ module _ {E P : Type 0} where
   abbrev pub NoRingAtAll : List (Request E P) → StyleValue → Type 0
   NoRingAtAll requests style = NoRingIn requests × HasNoRing style.macros
 
+  -- the style of the k-th request is the first of a request that has a ring, and the i-th is its
+  -- first macro on one
+  abbrev pub IsFirstRingAt : List (Request E P) → ℕ → ℕ → Type 0
+  IsFirstRingAt requests k i =
+      (r : Request E P) × (slice_get requests k ≡ Some r) × NoRingIn (take k requests)
+      × IsFirstRing r.style.macros (Some i)
+
   -- the style at this place is the first that has a ring, the requests' in order and then that of
   -- the bibliography, and the i-th is its first macro on a ring
   abbrev pub IsFirstRingOf : List (Request E P) → StyleValue → RingLocation → ℕ → Type 0
-  IsFirstRingOf requests style (places.Request k) i =
-      (r : Request E P) × (slice_get requests k ≡ Some r) × NoRingIn (take k requests)
-      × IsFirstRing r.style.macros (Some i)
+  IsFirstRingOf requests style (places.Request k) i = IsFirstRingAt requests k i
   IsFirstRingOf requests style places.Bibliography i = NoRingIn requests
       × IsFirstRing style.macros (Some i)
 

@@ -54,7 +54,7 @@ impl<'d, 'o, 'a, T: EntryLike, P: Eq + Drop> Draft<'d, 'o, 'a, T, P> {
         let told = self.told_apart(alloc, &notes, writer, &mut counter)?;
         let (ordered, mut all) = self.cites_in_order(alloc, &notes, &told)?;
         let cites: &mut [SpeculativeCiteRender<'d, 'a, T, P>] = &mut all.by_request;
-        let numbers = self.arranged(alloc, cites, &ordered)?;
+        let numbers = self.arrange(alloc, cites, &ordered)?;
         let bibliography = self.told_bibliography(alloc, cites, &told, writer, &mut counter)?;
         let citations = self.told_citations(alloc, cites, writer, &mut counter)?;
         let account = self.csl_account(alloc, told, numbers, &counter)?;

@@ -72,7 +72,7 @@ impl<'d, 'o, 'a, T: EntryLike, P: Eq + Drop> Draft<'d, 'o, 'a, T, P> {
 
     /// Arranges the cites of all requests, which are in this final order. It returns the numbers of
     /// the entries in the order of the bibliography.
-    pub(crate) fn arranged(
+    pub(crate) fn arrange(
         self,
         alloc: Global,
         cites: &mut [SpeculativeCiteRender<'_, 'a, T, P>],

@@ -52,19 +52,20 @@ use std::alloc::{AllocError, Global};
 impl<'a, T: EntryLike, P: Eq + Drop> BibliographyDriver<'a, T, P> {
     /// Answers all requests: a citation for each, and the bibliography, where its style has one.
     ///
-    /// Cites that read alike are disambiguated, cites of one author are grouped, and runs of
+    /// Cites that read alike are disambiguated, cites of one author are grouped, and ranges of
     /// numbers and years are collapsed, as their styles ask for (CSL 1.0.2, disambiguation, cite
-    /// grouping, cite collapsing); positions and numbers are those of the final order. Each cite is
-    /// written for its purpose, by its locator; a cite of the year alone is its date text. The
-    /// entries of the bibliography are those of the handed order that are cited, and then all that
-    /// are cited, with repeated authors substituted and first fields apart where its style asks for
-    /// it. Where an order is handed in and the style has a bibliography its order gives the
-    /// numbers, else that of the cites; they begin at the offset.
+    /// grouping, cite collapsing). Positions are those of the final order. Numbers begin at the
+    /// offset; they go by the bibliography where an order is handed in and the style has one, else
+    /// by the first cites in their final order. Each cite is written for its purpose, by its
+    /// locator; a cite of the year alone is its date text. The entries of the bibliography are those
+    /// of the handed order that are cited, and then all others that are cited, with repeated authors
+    /// substituted and first fields apart where its style asks for it.
     ///
     /// # Errors
-    /// `MacroRing` exactly where a style has macros that call each other in a ring;
-    /// `NumberOverflow` exactly where none has, and the offset and the number of distinct entries
-    /// together are above `usize::MAX`; `OutOfMemory` where memory runs out, at any point.
+    /// `MacroRing` only where a style has macros that call each other in a ring;
+    /// `NumberOverflow` only where none has, and the offset and the number of distinct entries
+    /// together are above `usize::MAX`; neither is ever answered. `OutOfMemory` where memory runs
+    /// out, at any point.
     pub fn finish(self, request: BibliographyRequest<'_, 'a, T>) -> Result<Rendered, DriverError>
         ensures { Finishes
             (λ r. r ≡ rendered T.eq P.eq (layout_writing T.answers) RoundMode.Three
@@ -199,7 +200,7 @@ impl<'d, 'o, 'a, T: EntryLike, P: Eq + Drop> Draft<'d, 'o, 'a, T, P> {
     {
         let table = &self.cited.table;
         let mut counter = Renders::new();
-        let mut first = self.first_renders(alloc, writer, &mut counter)?;
+        let mut first = self.render_first(alloc, writer, &mut counter)?;
         let cites: &mut [SpeculativeCiteRender<'d, 'a, T, P>] = &mut first.by_request;
         let rounds = disambiguate(alloc, cites, table, mode, writer, &mut counter)?;
         group_all(alloc, cites)?;
@@ -217,9 +218,9 @@ impl<'d, 'o, 'a, T: EntryLike, P: Eq + Drop> Draft<'d, 'o, 'a, T, P> {
         Ok((rendered, account))
     }
 
-    /// The cites of all requests, rendered by their first properties. Their numbers are those of
-    /// the bibliography.
-    fn first_renders<W: CiteWriter<T, P>>(
+    /// Renders the cites of all requests by their first properties. Their numbers are those of the
+    /// bibliography.
+    fn render_first<W: CiteWriter<T, P>>(
         self,
         alloc: Global,
         writer: &mut W,
@@ -239,7 +240,7 @@ impl<'d, 'o, 'a, T: EntryLike, P: Eq + Drop> Draft<'d, 'o, 'a, T, P> {
         Ok(cites)
     }
 
-    /// The numbers of the entries in the end, by their places in the table: those of the
+    /// The numbers of the entries in the end, by their indexes in the table: those of the
     /// bibliography where an order is used, else those of the cites in their final order. Behind
     /// them stands the number that the next entry would have.
     pub(crate) fn final_numbers(

@@ -1,8 +1,7 @@
 //! Styles whose macros call each other in a ring are refused before anything is rendered.
 ghost use Rattle.std.specs.Prelude.{◌≡◌, IfOk, IfErr, IfSome, None};
 ghost use Rattle.csl_passes.specs.RequestView.{requests_view, wanted_view};
-ghost use Rattle.csl_driver.specs.Rings.{IsFirstRingOf, NoRingIn, RefusesRing};
-ghost use Rattle.csl_driver.specs.declared.error.RingLocation.{RingLocation};
+ghost use Rattle.csl_driver.specs.Rings.{IsFirstRingAt, NoRingIn, RefusesRing};
 
 use crate::error::{DriverError, RingLocation};
 use csl_passes::acyclic::{AcyclicBibliographyRequest, AcyclicRequests};
@@ -28,7 +27,7 @@ pub(crate) fn without_rings<'r, 'w, 'o, 'a, T, P>(
     ensures refused { IfErr result
         (RefusesRing (requests_view requests.now) (wanted_view wanted.now).style) }
 {
-    if let Some((k, macro_index)) = request_ring(alloc, requests, wanted)? {
+    if let Some((k, macro_index)) = request_ring(alloc, requests)? {
         let place = RingLocation::Request(k);
         return Err(DriverError::MacroRing { place, macro_index });
     }
@@ -42,16 +41,13 @@ pub(crate) fn without_rings<'r, 'w, 'o, 'a, T, P>(
     ))
 }
 
-/// The place of the first request whose style has a ring, and that of its first macro on one.
+/// The index of the first request whose style has a ring, and that of its first macro on one.
 fn request_ring<T, P>(
     alloc: Global,
     requests: &[CitationRequest<'_, T, P>],
-    wanted: &BibliographyRequest<'_, '_, T>,
 ) -> Result<Option<(usize, usize)>, AllocError>
     ensures found { IfOk result
-        (λ r. IfSome r (λ p. IsFirstRingOf (requests_view requests.now)
-        (wanted_view wanted.now).style
-        (RingLocation.Request p.0) p.1)) }
+        (λ r. IfSome r (λ p. IsFirstRingAt (requests_view requests.now) p.0 p.1)) }
     ensures none { IfOk result (λ r. r ≡ None → NoRingIn (requests_view requests.now)) }
 {
     for (k, request) in requests.iter().enumerate() {

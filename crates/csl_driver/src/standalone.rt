@@ -118,8 +118,8 @@ fn delimiter_of(layout: &Layout) -> &str
 /// been written before.
 ///
 /// # Errors
-/// `MacroRing`, at `RingLocation::Request(0)`, exactly where the style has macros that call each
-/// other in a ring; `OutOfMemory` where memory runs out, at any point.
+/// `MacroRing`, at `RingLocation::Request(0)`, only where the style has macros that call each other
+/// in a ring, which is never answered. `OutOfMemory` where memory runs out, at any point.
 pub fn standalone_citation<T: EntryLike, P: Drop>(
     alloc: Global,
     request: CitationRequest<'_, T, P>,

@@ -2,7 +2,7 @@ use Rattle.std.proofs.Common.{Some, subst}
 use Rattle.std.proofs.Math.ListN.{length-map}
 use Rattle.csl_style_values.specs.Ring.{HasNoRing, IsFirstRing}
 use Rattle.csl_lookup.specs.Lookup.{Source}
-use Rattle.csl_passes.specs.RequestView.{request_view, requests_view, wanted_view}
+use Rattle.csl_passes.specs.RequestView.{request_view, requests_view}
 use Rattle.csl_driver.proofs.RingLemmas.{no_ring-more, first_ring, no_ring-all}
 use Rattle.csl_driver.proofs.rings.request_ring.Goals as goal
 
@@ -14,7 +14,7 @@ loop-k-preserved g c =
 pub returns-in-Some-clause-found : goal.returns-in-Some-clause-found
 returns-in-Some-clause-found g c =
     let request = c.index-requests-k.result in
-    first_ring request_view c.args.requests.now c.loop-k.k request c.loop-k-test.true c.index-requests-k.is (wanted_view c.args.wanted.now).style c.in-Some.macro_index
+    first_ring request_view c.args.requests.now c.loop-k.k request c.loop-k-test.true c.index-requests-k.is c.in-Some.macro_index
     (subst (λ (s : Source). IsFirstRing s.style.macros (Some c.in-Some.macro_index)) c.source.ensures
     (subst (IsFirstRing _) c.in-Some.is c.in_ok-macro_index.ensures.first)) c.loop-k.invariant
 

@@ -47,7 +47,7 @@ final_numbers-requires g c =
     let draft = c.args.self in
     let rounds =
     rounds-same g.T.EntryLike.answers c.args.mode g.T.PartialEq.eq (begun_tasks g.T.PartialEq.eq g.P.PartialEq.eq (job_in draft)) (desk (g.W.CiteWriter.state c.args.writer.now) c.new-counter.result)
-    (desk (g.W.CiteWriter.state c.first_renders.new.writer) c.first_renders.new.counter) c.in_ok-first.ensures.asked c.in_ok-rounds.ensures in
+    (desk (g.W.CiteWriter.state c.render_first.new.writer) c.render_first.new.counter) c.in_ok-first.ensures.asked c.in_ok-rounds.ensures in
     record {
       cites = ordered-stand g.met.T.Eq.laws (writing_of g.T.EntryLike.answers (g.W.CiteWriter.state c.args.writer.now)) g.P.PartialEq.eq (job_in draft) draft.known.table
           (ap renders_view c.deref_mut-cites.ensures.value ∙ c.in_ok-first.ensures.cites) c.args.mode rounds.cites c.in_ok-group_all.ensures;
@@ -58,7 +58,7 @@ set_final_properties-requires g c =
     let draft = c.args.self in
     let rounds =
     rounds-same g.T.EntryLike.answers c.args.mode g.T.PartialEq.eq (begun_tasks g.T.PartialEq.eq g.P.PartialEq.eq (job_in draft)) (desk (g.W.CiteWriter.state c.args.writer.now) c.new-counter.result)
-    (desk (g.W.CiteWriter.state c.first_renders.new.writer) c.first_renders.new.counter) c.in_ok-first.ensures.asked c.in_ok-rounds.ensures in
+    (desk (g.W.CiteWriter.state c.render_first.new.writer) c.render_first.new.counter) c.in_ok-first.ensures.asked c.in_ok-rounds.ensures in
     record {
       placed = (ordered-stand g.met.T.Eq.laws (writing_of g.T.EntryLike.answers (g.W.CiteWriter.state c.args.writer.now)) g.P.PartialEq.eq (job_in draft) draft.known.table
           (ap renders_view c.deref_mut-cites.ensures.value ∙ c.in_ok-first.ensures.cites) c.args.mode rounds.cites c.in_ok-group_all.ensures).placed;
@@ -69,7 +69,7 @@ bibliography-requires g c =
     let draft = c.args.self in
     let rounds =
     rounds-same g.T.EntryLike.answers c.args.mode g.T.PartialEq.eq (begun_tasks g.T.PartialEq.eq g.P.PartialEq.eq (job_in draft)) (desk (g.W.CiteWriter.state c.args.writer.now) c.new-counter.result)
-    (desk (g.W.CiteWriter.state c.first_renders.new.writer) c.first_renders.new.counter) c.in_ok-first.ensures.asked c.in_ok-rounds.ensures in
+    (desk (g.W.CiteWriter.state c.render_first.new.writer) c.render_first.new.counter) c.in_ok-first.ensures.asked c.in_ok-rounds.ensures in
     record {
       cites = settled-stand g.met.T.Eq.laws (writing_of g.T.EntryLike.answers (g.W.CiteWriter.state c.args.writer.now)) g.P.PartialEq.eq (job_in draft) draft.known.table
           (ap renders_view c.deref_mut-cites.ensures.value ∙ c.in_ok-first.ensures.cites) c.args.mode rounds.cites c.in_ok-group_all.ensures _ c.set_final_properties.ensures;
@@ -80,7 +80,7 @@ citations-requires g c =
     let draft = c.args.self in
     let rounds =
     rounds-same g.T.EntryLike.answers c.args.mode g.T.PartialEq.eq (begun_tasks g.T.PartialEq.eq g.P.PartialEq.eq (job_in draft)) (desk (g.W.CiteWriter.state c.args.writer.now) c.new-counter.result)
-    (desk (g.W.CiteWriter.state c.first_renders.new.writer) c.first_renders.new.counter) c.in_ok-first.ensures.asked c.in_ok-rounds.ensures in
+    (desk (g.W.CiteWriter.state c.render_first.new.writer) c.render_first.new.counter) c.in_ok-first.ensures.asked c.in_ok-rounds.ensures in
     let stand = settled-stand g.met.T.Eq.laws (writing_of g.T.EntryLike.answers (g.W.CiteWriter.state c.args.writer.now)) g.P.PartialEq.eq (job_in draft) draft.known.table
     (ap renders_view c.deref_mut-cites.ensures.value ∙ c.in_ok-first.ensures.cites) c.args.mode rounds.cites c.in_ok-group_all.ensures _ c.set_final_properties.ensures in
     record { cites = ap (map (λ r. r.request)) c.collapse_all.ensures ∙ drawn-requests (renders_view c.set_final_properties.new.cites) ∙ stand.of }
@@ -97,7 +97,7 @@ returns g c =
     let source = wanted_source job.wanted in
     let listed = entries_listed eq job.wanted job.requests in
     let start = desk (g.W.CiteWriter.state c.args.writer.now) c.new-counter.result in
-    let begun = desk (g.W.CiteWriter.state c.first_renders.new.writer) c.first_renders.new.counter in
+    let begun = desk (g.W.CiteWriter.state c.render_first.new.writer) c.render_first.new.counter in
     let told = desk (g.W.CiteWriter.state c.disambiguate.new.writer) c.disambiguate.new.counter in
     let written = desk (g.W.CiteWriter.state c.bibliography.new.writer) c.bibliography.new.counter in
     let end = desk (g.W.CiteWriter.state c.citations.new.writer) c.citations.new.counter in

@@ -38,8 +38,8 @@ cites_in_order-requires g c =
       counts = ap (map (λ n. length n.items)) c.deref-2.ensures.value ∙ c.in_ok-notes.ensures.counts;
     }
 
-pub arranged-requires : goal.arranged-requires
-arranged-requires g c =
+pub arrange-requires : goal.arrange-requires
+arrange-requires g c =
     let draft = c.args.self in
     record { cites = subst (AreCitesOf g.T.PartialEq.eq (table_in draft) (job_in draft).requests) (sym (ap renders_view c.deref_mut-cites.ensures.value)) c.in_ok-ordered.ensures.belong }
 
@@ -67,7 +67,7 @@ returns g c =
     let by_states = c.in_ok-told.told.states.items in
     let by_suffixes = c.in_ok-told.told.suffixes.items in
     let account = c.in_ok-account.ensures in
-    let cites = renders_view c.arranged.new.cites in
+    let cites = renders_view c.arrange.new.cites in
     let before = ap renders_view c.deref_mut-cites.ensures.value ∙ c.in_ok-ordered.ensures.cites writing apart in
     let finals = ap (λ rs. all_located (all_arranged_view rs)) c.deref-3.ensures.value ∙ c.in_ok-ordered.ensures.ordered writing apart in
     let numbers = c.in_ok-numbers.ensures.numbers ∙ ap (numbers_by eq job) before in

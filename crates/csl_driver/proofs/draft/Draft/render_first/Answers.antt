@@ -8,7 +8,7 @@ use Rattle.csl_writers.specs.Desk.{after, desk}
 use Rattle.csl_writers.specs.Writing.{writing_of}
 use Rattle.csl_driver.proofs.FirstPlaced.{first-shape}
 use Rattle.csl_driver.proofs.Listings.{known-listed, numbers-are, numbers-fit, numbers-long}
-use Rattle.csl_driver.proofs.draft.Draft.first_renders.Goals as goal
+use Rattle.csl_driver.proofs.draft.Draft.render_first.Goals as goal
 
 pub numbers-requires : goal.numbers-requires
 numbers-requires g c = let known = c.args.self.known in record { fits = numbers-fit known (known-listed known) }

@@ -13,7 +13,7 @@ use Rattle.csl_driver.specs.AreCitesOf.{AreCitesOf}
 use Rattle.csl_driver.specs.DraftView.{job_in, table_in}
 use Rattle.csl_driver.proofs.CslArranged.{arranged-lent}
 use Rattle.csl_driver.proofs.CslStanding.{arranged-stand}
-use Rattle.csl_driver.proofs.draft.Draft.arranged.Goals as goal
+use Rattle.csl_driver.proofs.draft.Draft.arrange.Goals as goal
 
 pub returns : goal.returns
 returns g c =
