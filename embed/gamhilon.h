@@ -1,11 +1,13 @@
 /* Gamhilon: citations and bibliographies, for C99 and C++17.
  *
- * gamhilon_cite takes the texts of a style file, of items and of citations (docs/WRITER.md). The other calls take
- * a document, which is JSON (docs/DOCUMENT.md; for the driven calls docs/DRIVEN.md). A call puts what comes of
- * them into a buffer of the caller's. Nothing stays between calls, and nothing is to be initialised or freed.
+ * gamhilon_cite takes the texts of a style file, of items and of citations (docs/WRITER.md). The
+ * other calls take a document, which is JSON (docs/DOCUMENT.md; for the driven calls
+ * docs/DRIVEN.md). A call puts what comes of them into a buffer of the caller's. Nothing stays
+ * between calls, and nothing is to be initialised or freed.
  *
- * As long as the first number of GAMHILON_VERSION stays 0, a change of its second number may change calls; from
- * 1.0.0 on the calls, the statuses and the name of the shared object stay as long as the first number stays. */
+ * As long as the first number of GAMHILON_VERSION stays 0, a change of its second number may change
+ * calls; from 1.0.0 on the calls, the statuses and the name of the shared object stay as long as
+ * the first number stays. */
 #ifndef GAMHILON_H
 #define GAMHILON_H
 
@@ -22,16 +24,17 @@ extern "C" {
 #define GAMHILON_VERSION_MINOR 2
 #define GAMHILON_VERSION_PATCH 0
 
-/* ---- Statuses -------------------------------------------------------------------------------------------
+/* ---- Statuses -----------------------------------------------------------------------------------
  *
- * What a call ends with. There is no status 1: that is the program's, where reading or writing fails. */
+ * What a call ends with. There is no status 1: that is the program's, where reading or writing
+ * fails. */
 
 /* The call did what it was asked for. */
 #define GAMHILON_OK 0u
 
-/* The document isn't JSON, or not of the form of a document. gamhilon_find_fault tells where it is wrong, and
- * gamhilon_find_driven_fault where a driven document is. Of gamhilon_cite: a text is not of its form, and
- * gamhilon_find_cite_fault tells where. */
+/* The document isn't JSON, or not of the form of a document. gamhilon_find_fault tells where it is
+ * wrong, and gamhilon_find_driven_fault where a driven document is. Of gamhilon_cite: a text is not
+ * of its form, and gamhilon_find_cite_fault tells where. */
 #define GAMHILON_DOCUMENT_REFUSED 2u
 
 /* The macros of a style call each other in a ring. gamhilon_find_ring tells where. */
@@ -40,7 +43,8 @@ extern "C" {
 /* The citation numbers don't fit 64 bits. */
 #define GAMHILON_NUMBER_OVERFLOW 4u
 
-/* malloc or realloc refused memory. All that the call had taken is freed, and the process goes on. */
+/* malloc or realloc refused memory. All that the call had taken is freed, and the process goes
+ * on. */
 #define GAMHILON_OUT_OF_MEMORY 5u
 
 /* The text has `*needed` bytes, which is more than the buffer has. */
@@ -52,21 +56,22 @@ extern "C" {
 /* A layout has more elements than gamhilon_check_limits was told. */
 #define GAMHILON_TOO_MANY_ELEMENTS 8u
 
-/* The cites can't be disambiguated: something was still missing after 10,000 calls of the driver. Of gamhilon_cite
- * alone. */
+/* The cites can't be disambiguated: something was still missing after 10,000 calls of the driver.
+ * Of gamhilon_cite alone. */
 #define GAMHILON_UNSETTLED 9u
 
-/* A text for people that tells what a status means. It has no line feed, ends with a NUL, and is never freed. */
+/* A text for people that tells what a status means. It has no line feed, ends with a NUL, and is
+ * never freed. */
 const char *gamhilon_status_text(uint32_t status);
 
-/* ---- Answers --------------------------------------------------------------------------------------------
+/* ---- Answers ------------------------------------------------------------------------------------
  *
  * Each call that takes a buffer keeps to these rules.
  *
- * - At GAMHILON_OK the buffer begins with the text, which is UTF-8 and has no NUL at its end; the rest of the
- *   buffer is as it was. At every other status the whole buffer is as it was.
- * - `*needed` is the length of the text at GAMHILON_OK and at GAMHILON_BUFFER_TOO_SMALL, and else 0. So a call
- *   with a buffer of length 0 asks for the length:
+ * - At GAMHILON_OK the buffer begins with the text, which is UTF-8 and has no NUL at its end; the
+ *   rest of the buffer is as it was. At every other status the whole buffer is as it was.
+ * - `*needed` is the length of the text at GAMHILON_OK and at GAMHILON_BUFFER_TOO_SMALL, and else
+ *   0. So a call with a buffer of length 0 asks for the length:
  *
  *       size_t needed;
  *       uint32_t status = gamhilon_render_text(document, document_length, NULL, 0, &needed);
@@ -77,66 +82,75 @@ const char *gamhilon_status_text(uint32_t status);
  *           free(buffer);
  *       }
  *
- *   Each call does the whole work, so a first buffer that will mostly do is better: text is rarely longer than
- *   its document; JSON is mostly four to five times as long, and rarely more than eight times.
- * - Document or texts, buffer and `needed` are the caller's before and after the call, and must not overlap. The
- *   library keeps no pointer to them. A pointer may be null where its length is 0; `needed` must not be null.
- * - Any number of threads may call at once, on buffers of their own. A call reads no file, no environment, no
- *   locale and no clock, and writes to no stream. It must not be made from a signal handler, nor in a forked
- *   child of a process with several threads before that calls exec.
- * - Memory is taken by malloc and realloc and all freed when the call returns. malloc, realloc and free have to
- *   be of one allocator, which aligns a block to each power of two up to 16 that divides its size.
- * - The stack: give a thread that calls 256 KiB, and for style files 2 MiB (below). Of the documents that the
- *   tests try the deepest take 111 KiB. JSON nests no deeper than 127, but macros that call one another deepen
- *   trees further: see gamhilon_check_limits. Running out of stack ends the process, as everywhere in C.
- * - The processor has to be an x86-64 of level v2 (SSE4.2 and POPCNT: those made since 2009) or above.
+ *   Each call does the whole work, so a first buffer that will mostly do is better: text is rarely
+ *   longer than its document; JSON is mostly four to five times as long, and rarely more than eight
+ *   times.
+ * - Document or texts, buffer and `needed` are the caller's before and after the call, and must not
+ *   overlap. The library keeps no pointer to them. A pointer may be null where its length is 0;
+ *   `needed` must not be null.
+ * - Any number of threads may call at once, on buffers of their own. A call reads no file, no
+ *   environment, no locale and no clock, and writes to no stream. It must not be made from a signal
+ *   handler, nor in a forked child of a process with several threads before that calls exec.
+ * - Memory is taken by malloc and realloc and all freed when the call returns. malloc, realloc and
+ *   free have to be of one allocator, which aligns a block to each power of two up to 16 that
+ *   divides its size.
+ * - The stack: give a thread that calls 256 KiB, and for style files 2 MiB (below). Of the
+ *   documents that the tests try the deepest take 111 KiB. JSON nests no deeper than 127, but
+ *   macros that call one another deepen trees further: see gamhilon_check_limits. Running out of
+ *   stack ends the process, as everywhere in C.
+ * - The processor has to be an x86-64 of level v2 (SSE4.2 and POPCNT: those made since 2009) or
+ *   above.
  *
- * What each call does with document, buffer, `needed` and `ring` is proved for callers that keep to these rules
- * (crates/gamhilon_c). The C compiler and malloc are trusted; gamhilon_version and gamhilon_status_text are
- * plain C. */
+ * What each call does with document, buffer, `needed` and `ring` is proved for callers that keep to
+ * these rules (crates/gamhilon_c). The C compiler and malloc are trusted; gamhilon_version and
+ * gamhilon_status_text are plain C. */
 
-/* Renders the document as text: a line for each citation and then, where the style has a bibliography, an empty
- * line and a line for each of its items.
+/* Renders the document as text: a line for each citation and then, where the style has a
+ * bibliography, an empty line and a line for each of its items.
  *
  * Ends with GAMHILON_OK, GAMHILON_DOCUMENT_REFUSED, GAMHILON_MACRO_RING, GAMHILON_NUMBER_OVERFLOW,
  * GAMHILON_OUT_OF_MEMORY or GAMHILON_BUFFER_TOO_SMALL. */
 uint32_t gamhilon_render_text(const uint8_t *document, size_t document_length,
                               uint8_t *buffer, size_t buffer_length, size_t *needed);
 
-/* Renders the document as JSON (docs/ANSWER.md), with formatting, links, keys, note numbers and settings.
+/* Renders the document as JSON (docs/ANSWER.md), with formatting, links, keys, note numbers and
+ * settings.
  *
  * Ends with the statuses of gamhilon_render_text. */
 uint32_t gamhilon_render_json(const uint8_t *document, size_t document_length,
                               uint8_t *buffer, size_t buffer_length, size_t *needed);
 
-/* ---- Style files ------------------------------------------------------------------------------------------
+/* ---- Style files --------------------------------------------------------------------------------
  *
  * Both calls take five texts in UTF-8, of which no file is opened:
  *
- * - `style`: a style file of CSL 1.0.2 that stands for itself. One that stands for another style is refused, and
- *   gamhilon_find_cite_fault tells which that is.
- * - `locales`: a JSON list of the texts of locale files. Words are looked for in those of the dialect, of the
- *   language's primary dialect and of American English (en-US), which is built in; the others aren't used. An
- *   empty text is an empty list.
+ * - `style`: a style file of CSL 1.0.2 that stands for itself. One that stands for another style is
+ *   refused, and gamhilon_find_cite_fault tells which that is.
+ * - `locales`: a JSON list of the texts of locale files. Words are looked for in those of the
+ *   dialect, of the language's primary dialect and of American English (en-US), which is built in;
+ *   the others aren't used. An empty text is an empty list.
  * - `items`: CSL-JSON (docs/REFERENCES.md).
- * - `citations`: a JSON list of citations, each a list of cites: objects with `id`, and maybe `locator`, `label`,
- *   `prefix`, `suffix`, `suppress-author`, `author-only`, `hidden` and `note` (docs/WRITER.md).
- * - `options`: a JSON object of `locale`, a language tag that stands in place of the style's, and `nocite`: where
- *   it is true, items that aren't cited are listed too. Other keys are refused. An empty text is an empty object.
+ * - `citations`: a JSON list of citations, each a list of cites: objects with `id`, and maybe
+ *   `locator`, `label`, `prefix`, `suffix`, `suppress-author`, `author-only`, `hidden` and `note`
+ *   (docs/WRITER.md).
+ * - `options`: a JSON object of `locale`, a language tag that stands in place of the style's, and
+ *   `nocite`: where it is true, items that aren't cited are listed too. Other keys are refused. An
+ *   empty text is an empty object.
  *
- * Answers may be longer than the texts: a first buffer of 64 KiB and eight times the length of items and
- * citations together will mostly do.
+ * Answers may be longer than the texts: a first buffer of 64 KiB and eight times the length of
+ * items and citations together will mostly do.
  *
- * Give a thread that calls 2 MiB of stack. Of 300 published styles the deepest take 111 KiB; a style file whose
- * elements nest as deep as is read, 256, takes 1.7 MiB, and macros that call one another 1,000 deep 1 MiB. */
+ * Give a thread that calls 2 MiB of stack. Of 300 published styles the deepest take 111 KiB; a
+ * style file whose elements nest as deep as is read, 256, takes 1.7 MiB, and macros that call one
+ * another 1,000 deep 1 MiB. */
 
-/* Writes the citations and the bibliography, as JSON (docs/ANSWER.md). A style of notes tells the number of the
- * note of each citation. Quotes have their marks as text. Of what an element was written for (`meta`) cites alone
- * are told: each by its place in the citation that was handed in.
+/* Writes the citations and the bibliography, as JSON (docs/ANSWER.md). A style of notes tells the
+ * number of the note of each citation. Quotes have their marks as text. Of what an element was
+ * written for (`meta`) cites alone are told: each by its place in the citation that was handed in.
  *
- * Ends with GAMHILON_OK, GAMHILON_DOCUMENT_REFUSED, GAMHILON_NUMBER_OVERFLOW, GAMHILON_OUT_OF_MEMORY,
- * GAMHILON_BUFFER_TOO_SMALL or GAMHILON_UNSETTLED. That the text stands in the buffer is proved, and not which
- * text it is. */
+ * Ends with GAMHILON_OK, GAMHILON_DOCUMENT_REFUSED, GAMHILON_NUMBER_OVERFLOW,
+ * GAMHILON_OUT_OF_MEMORY, GAMHILON_BUFFER_TOO_SMALL or GAMHILON_UNSETTLED. That the text stands in
+ * the buffer is proved, and not which text it is. */
 uint32_t gamhilon_cite(const uint8_t *style, size_t style_length,
                        const uint8_t *locales, size_t locales_length,
                        const uint8_t *items, size_t items_length,
@@ -147,19 +161,22 @@ uint32_t gamhilon_cite(const uint8_t *style, size_t style_length,
 /* Finds what is wrong and odd in the texts: puts a JSON object into the buffer, as
  *
  *     {"fault":{"column":3,"file":"style","line":7,"message":".."},"warnings":[]}
- *     {"warnings":[{"file":"items","message":"unknown key, left out; is it `title`?","pointer":"/0/titel"}]}
+ *     {"warnings":[{"file":"items","message":"unknown key, left out; is it `title`?",
+ *         "pointer":"/0/titel"}]}
  *
- * `fault` is there where gamhilon_cite ends with GAMHILON_DOCUMENT_REFUSED, and is the first thing that is wrong;
- * texts are read in the order options, style, locales, items, citations. `warnings` is the list of what is read
- * otherwise than it stands in the texts, up to the fault; where there is none, the list tells all.
+ * `fault` is there where gamhilon_cite ends with GAMHILON_DOCUMENT_REFUSED, and is the first thing
+ * that is wrong; texts are read in the order options, style, locales, items, citations. `warnings`
+ * is the list of what is read otherwise than it stands in the texts, up to the fault; where there
+ * is none, the list tells all.
  *
- * `file` is the text: `style`, `locales`, `locales/0` for the first of the locale files, `items`, `citations` or
- * `options`. The place in it is a `line` and a `column`, both from 1, or the JSON Pointer `pointer` (RFC 6901);
- * neither where the whole text is meant. `message` is for people. A style file that stands for another one has
- * the link to that as `parent`, and maybe as `parent_locale` the language to be asked for by the option `locale`.
+ * `file` is the text: `style`, `locales`, `locales/0` for the first of the locale files, `items`,
+ * `citations` or `options`. The place in it is a `line` and a `column`, both from 1, or the JSON
+ * Pointer `pointer` (RFC 6901); neither where the whole text is meant. `message` is for people. A
+ * style file that stands for another one has the link to that as `parent`, and maybe as
+ * `parent_locale` the language to be asked for by the option `locale`.
  *
- * It writes no citation, and takes far less time than gamhilon_cite. Ends with GAMHILON_OK, GAMHILON_OUT_OF_MEMORY
- * or GAMHILON_BUFFER_TOO_SMALL. */
+ * It writes no citation, and takes far less time than gamhilon_cite. Ends with GAMHILON_OK,
+ * GAMHILON_OUT_OF_MEMORY or GAMHILON_BUFFER_TOO_SMALL. */
 uint32_t gamhilon_find_cite_fault(const uint8_t *style, size_t style_length,
                                   const uint8_t *locales, size_t locales_length,
                                   const uint8_t *items, size_t items_length,
@@ -167,45 +184,47 @@ uint32_t gamhilon_find_cite_fault(const uint8_t *style, size_t style_length,
                                   const uint8_t *options, size_t options_length,
                                   uint8_t *buffer, size_t buffer_length, size_t *needed);
 
-/* ---- Documents from others ------------------------------------------------------------------------------ */
+/* ---- Documents from others ------------------------------------------------------------------- */
 
-/* Tells whether each layout of each style of the document is within limits: whether its elements nest no deeper
- * than `depth`, and are no more than `elements`. It renders nothing, and stops at the first element that is too
- * deep or too many.
+/* Tells whether each layout of each style of the document is within limits: whether its elements
+ * nest no deeper than `depth`, and are no more than `elements`. It renders nothing, and stops at
+ * the first element that is too deep or too many.
  *
- * Macros make much work of a small document: a chain of them takes more stack the longer it is, and 24 macros
- * that each call the next one twice and write, in 3 KB, would take gigabytes. The other calls have no limits of
- * their own. So ask this first of a document that comes from others:
+ * Macros make much work of a small document: a chain of them takes more stack the longer it is, and
+ * 24 macros that each call the next one twice and write, in 3 KB, would take gigabytes. The other
+ * calls have no limits of their own. So ask this first of a document that comes from others:
  *
  *     uint32_t status = gamhilon_check_limits(document, document_length, 100, 100000);
  *     if (status == GAMHILON_OK) {
  *         status = gamhilon_render_text(document, document_length, buffer, buffer_length, &needed);
  *     }
  *
- * Within a depth of 100 all calls keep to 256 KiB of stack on the documents that the tests try, and this call on
- * those that it refuses too. Limit the length of documents as well: each cite may write all elements of its
- * layout, and each element a long text.
+ * Within a depth of 100 all calls keep to 256 KiB of stack on the documents that the tests try, and
+ * this call on those that it refuses too. Limit the length of documents as well: each cite may
+ * write all elements of its layout, and each element a long text.
  *
- * An element in a group, in a branch of a choice or in the children of a macro stands one deeper than the group,
- * the choice or the call of the macro. So an empty layout is within a depth of 0, and within a depth of 1 no
- * element stands in another. Each element counts: those of all branches of a choice, each call of a macro, and
- * at each call all that the macro's children hold. A style whose macros call each other in a ring is let
- * through, as no answer comes of it.
+ * An element in a group, in a branch of a choice or in the children of a macro stands one deeper
+ * than the group, the choice or the call of the macro. So an empty layout is within a depth of 0,
+ * and within a depth of 1 no element stands in another. Each element counts: those of all branches
+ * of a choice, each call of a macro, and at each call all that the macro's children hold. A style
+ * whose macros call each other in a ring is let through, as no answer comes of it.
  *
- * Ends with GAMHILON_OK, GAMHILON_TOO_DEEP, GAMHILON_TOO_MANY_ELEMENTS or GAMHILON_OUT_OF_MEMORY; and with
- * GAMHILON_DOCUMENT_REFUSED where the document isn't JSON, has a key that no document has, or a style that isn't
- * of its form. The rest of it isn't read. */
-uint32_t gamhilon_check_limits(const uint8_t *document, size_t document_length, size_t depth, size_t elements);
+ * Ends with GAMHILON_OK, GAMHILON_TOO_DEEP, GAMHILON_TOO_MANY_ELEMENTS or GAMHILON_OUT_OF_MEMORY;
+ * and with GAMHILON_DOCUMENT_REFUSED where the document isn't JSON, has a key that no document has,
+ * or a style that isn't of its form. The rest of it isn't read. */
+uint32_t gamhilon_check_limits(const uint8_t *document, size_t document_length, size_t depth,
+                               size_t elements);
 
-/* ---- What is wrong with a document ---------------------------------------------------------------------- */
+/* ---- What is wrong with a document ----------------------------------------------------------- */
 
-/* Finds where the document is wrong: puts its first fault into the buffer, as a JSON object of three texts, as
+/* Finds where the document is wrong: puts its first fault into the buffer, as a JSON object of
+ * three texts, as
  *
  *     {"found":"a number","pointer":"/entries/0/author/1/1","wanted":"a text"}
  *
- * `pointer` is a JSON Pointer (RFC 6901) to the part of the document, `found` what stands there, and `wanted`
- * what is asked for there (docs/DOCUMENT.md, "Where a document is wrong"). A document that isn't refused has no
- * fault: then `*needed` is 0. It reads the document, and renders nothing.
+ * `pointer` is a JSON Pointer (RFC 6901) to the part of the document, `found` what stands there,
+ * and `wanted` what is asked for there (docs/DOCUMENT.md, "Where a document is wrong"). A document
+ * that isn't refused has no fault: then `*needed` is 0. It reads the document, and renders nothing.
  *
  * Ends with GAMHILON_OK, GAMHILON_OUT_OF_MEMORY or GAMHILON_BUFFER_TOO_SMALL. */
 uint32_t gamhilon_find_fault(const uint8_t *document, size_t document_length,
@@ -214,40 +233,44 @@ uint32_t gamhilon_find_fault(const uint8_t *document, size_t document_length,
 /* Where the first ring of macros is. */
 typedef struct {
     size_t of_bibliography; /* 1 where the style is that of the bibliography, and else 0 */
-    size_t request;         /* the index of the request whose style it is, from 0; 0 for the bibliography's */
-    size_t macro_index;     /* the index of the first macro on a ring, among the macros of its style, from 0 */
+    size_t request;         /* the index of the request whose style it is, from 0; 0 for the
+                               bibliography's */
+    size_t macro_index;     /* the index of the first macro on a ring, among the macros of its
+                               style, from 0 */
 } gamhilon_ring_location;
 
-/* Finds the first ring of macros. At GAMHILON_MACRO_RING `*ring` is its place, and at every other status it is as
- * it was. `ring` must not be null.
+/* Finds the first ring of macros. At GAMHILON_MACRO_RING `*ring` is its place, and at every other
+ * status it is as it was. `ring` must not be null.
  *
  * Ends with the statuses of gamhilon_render_text, but never with GAMHILON_BUFFER_TOO_SMALL. */
-uint32_t gamhilon_find_ring(const uint8_t *document, size_t document_length, gamhilon_ring_location *ring);
+uint32_t gamhilon_find_ring(const uint8_t *document, size_t document_length,
+                            gamhilon_ring_location *ring);
 
-/* ---- Hosts that write cites themselves ------------------------------------------------------------------ */
+/* ---- Hosts that write cites themselves ------------------------------------------------------- */
 
-/* For a host that writes cites itself, such as a reference manager with a CSL processor. It hands in a driven
- * document (docs/DRIVEN.md), which has no layouts. Puts what comes of it into the buffer, as JSON: where the host
- * has written all that is asked for, the answer, and else what is missing, of which there is something, each
- * task once:
+/* For a host that writes cites itself, such as a reference manager with a CSL processor. It hands
+ * in a driven document (docs/DRIVEN.md), which has no layouts. Puts what comes of it into the
+ * buffer, as JSON: where the host has written all that is asked for, the answer, and else what is
+ * missing, of which there is something, each task once:
  *
  *     {"answer":{"citations":[..],"bibliography":{..}}}
- *     {"missing":[{"entry":"darwin","first":true,"kind":"cite","locale":"en-US","number":0,"style":"apa"},..]}
+ *     {"missing":[{"entry":"darwin","first":true,"kind":"cite","locale":"en-US",
+ *         "number":0,"style":"apa"},..]}
  *
- * The host starts with a document that has nothing under `written`, writes each task that is missing, adds it
- * there and calls again, until an answer comes:
+ * The host starts with a document that has nothing under `written`, writes each task that is
+ * missing, adds it there and calls again, until an answer comes:
  *
  *     status = gamhilon_drive(document, document_length, buffer, buffer_length, &needed);
  *     while (status == GAMHILON_OK && memcmp(buffer, "{\"missing\":", 11) == 0) {
- *         ...                                  (write each task, and add it to the document)
+ *         ... (write each task, and add it to the document)
  *         status = gamhilon_drive(document, document_length, buffer, buffer_length, &needed);
  *     }
  *
- * What is missing now may depend on what was written before, so that takes three calls or a few more
- * (docs/DRIVEN.md, "The loop").
+ * What is missing now may depend on what was written before, so that takes three calls or a few
+ * more (docs/DRIVEN.md, "The loop").
  *
- * Ends with the statuses of gamhilon_render_text but GAMHILON_MACRO_RING, since a driven style has no macros
- * (this alone isn't proved). */
+ * Ends with the statuses of gamhilon_render_text but GAMHILON_MACRO_RING, since a driven style has
+ * no macros (this alone isn't proved). */
 uint32_t gamhilon_drive(const uint8_t *document, size_t document_length,
                         uint8_t *buffer, size_t buffer_length, size_t *needed);
 
@@ -255,10 +278,11 @@ uint32_t gamhilon_drive(const uint8_t *document, size_t document_length,
 uint32_t gamhilon_find_driven_fault(const uint8_t *document, size_t document_length,
                                     uint8_t *buffer, size_t buffer_length, size_t *needed);
 
-/* ---- The library ---------------------------------------------------------------------------------------- */
+/* ---- The library ----------------------------------------------------------------------------- */
 
-/* The version of the library, and the commit and the toolchain that it was proved and built by, where those are
- * known: a text that begins with its GAMHILON_VERSION, ends with a NUL, and is never freed. */
+/* The version of the library, and the commit and the toolchain that it was proved and built by,
+ * where those are known: a text that begins with its GAMHILON_VERSION, ends with a NUL, and is
+ * never freed. */
 const char *gamhilon_version(void);
 
 #ifdef __cplusplus
