@@ -3,18 +3,20 @@
 
     bench/bench.py [--program PATH] [--kinds NAME,..] [--most N] [--runs N] [--instructions]
 
-Makes documents of n = 1,000, 4,000, 16,000 and 64,000 (up to --most) of each kind, runs the program on each, and prints
-a row for each: the document's size, the best processor time of --runs runs, the peak of memory, the growth of the time from the n
-before (from n to 4n; linear is 4), and the ratio of the time to that of reading alone. Reading alone is the same program
-on the same document with one more key at the top, which it reads as JSON whole and then refuses.
+Makes documents of n = 1,000, 4,000, 16,000 and 64,000 (up to --most) of each kind, runs the program
+on each, and prints a row for each: the document's size, the best processor time of --runs runs, the
+peak of memory, the growth of the time from the n before (from n to 4n; linear is 4), and the ratio
+of the time to that of reading alone. Reading alone is the same program on the same document with
+one more key at the top, which it reads as JSON whole and then refuses.
 
-With --instructions it counts the millions of instructions that the program executes (one run each, by valgrind's callgrind,
-much slower) in place of time and peak: these don't depend on caches and on what else the machine does.
+With --instructions it counts the millions of instructions that the program executes (one run each,
+by valgrind's callgrind, much slower) in place of time and peak: these don't depend on caches and on
+what else the machine does.
 
-Only Python's standard library and the built program are used, and valgrind with --instructions. Build the program first:
-(cd crates/cite_run && rt run < stdin).
-Documents are made in a process of their own, since a child's peak of memory begins with that of its parent: peaks below
-some 12 MiB are this script's.
+Only Python's standard library and the built program are used, and valgrind with --instructions.
+Build the program first: (cd crates/cite_run && rt run < stdin).
+Documents are made in a process of their own, since a child's peak of memory begins with that of its
+parent: peaks below some 12 MiB are this script's.
 """
 import argparse
 import json
@@ -95,7 +97,8 @@ def macros(n):
 
 
 def author_date(n):
-    """n requests of one cite each, of two persons and a year, as in (Doe & Roe 1999); every entry another one."""
+    """n requests of one cite each, of two persons and a year, as in (Doe & Roe 1999); every entry
+    another one."""
     names = {"kind": "names", "variables": ["author"], "options": {"and": "symbol", "name_form": "short"}}
     date = {"kind": "date", "variable": "issued"}
     group = {"kind": "group", "children": [names, date], "delimiter": " "}
@@ -122,8 +125,9 @@ YEAR = {"kind": "date", "variable": "issued"}
 
 
 def called(requests, more=0, terms=1):
-    """Requests of two persons and a year, which macros of the style write, behind so many more macros of a dozen elements
-    that nothing calls; the word between the persons is the last of so many terms."""
+    """Requests of two persons and a year, which macros of the style write, behind so many more
+    macros of a dozen elements that nothing calls; the word between the persons is the last of so
+    many terms."""
     made = author_date(requests)
     named = {**NAMES, "options": {"and": "text", "name_form": "short"}}
     unused = [{"name": f"unused{i}", "children": [{"kind": "text", "value": "text"}] * 12} for i in range(more)]
@@ -156,7 +160,8 @@ def requests_and_terms(n):
 
 
 def macro_chain(n):
-    """One request in a style whose layout calls the first of n macros, and each of these the next."""
+    """One request in a style whose layout calls the first of n macros, and each of these the
+    next."""
     made = macros(n)
     layout = made["styles"]["s"]["citation"]
     layout["elements"] = [{"kind": "text", "macro": "macro0"}, *layout["elements"]]
@@ -202,8 +207,9 @@ def without_text(n):
 
 
 def chained(n):
-    """n requests, each of an entry that shows its publisher, or its title where it is chosen, in as many rounds as mark:
-    each round chooses one entry, which reads as the next from then on, so there are n - 1."""
+    """n requests, each of an entry that shows its publisher, or its title where it is chosen, in as
+    many rounds as mark: each round chooses one entry, which reads as the next from then on, so
+    there are n - 1."""
     publishers = [1, *range(1, n)]
     titles = [0, *range(2, n + 1)]
     entries = [
@@ -240,7 +246,8 @@ def one_text(n):
 
 
 def last_person_differs(n):
-    """n requests, each of a work of six persons and one year, of which the last alone is another one."""
+    """n requests, each of a work of six persons and one year, of which the last alone is another
+    one."""
     first = [[f"Roe{i}", "Jane"] for i in range(5)]
     entries = [{"key": key, "author": [*first, [f"Doe{i}"]], "issued": 1999} for i, key in enumerate(keys_of(n))]
     names = {**NAMES, "options": {"name_form": "short", "et_al_min": 3, "et_al_use_first": 1}}
@@ -261,7 +268,8 @@ def greatest_distance(n):
 
 
 def copies(name, n):
-    """An example's document over and over, up to n requests: the families of each copy are its own, and so are its keys."""
+    """An example's document over and over, up to n requests: the families of each copy are its own,
+    and so are its keys."""
     made = json.loads((ROOT / f"examples/{name}.json").read_text())
     count = -(-n // len(made["requests"]))
     order = made["bibliography"].get("order")
@@ -288,7 +296,8 @@ def copied_request(request, before, i):
 
 
 def whole_author_date(n):
-    """n requests as users have them: names, given names, suffixes, groups, and a bibliography with repeated authors."""
+    """n requests as users have them: names, given names, suffixes, groups, and a bibliography with
+    repeated authors."""
     return copies("author_date", n)
 
 

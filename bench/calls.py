@@ -3,9 +3,11 @@
 
     bench/calls.py [--program PATH] [--runs N]
 
-Makes documents of 1, 10 and 1,000 citations, author-date as users have them (that of bench.py), and prints of each the best time of
---runs calls of gamhilon_render_text and of gamhilon_render_json, each in a buffer that fits, and of --runs starts of cite_run.
-Build both first: embed/build.py, and (cd crates/cite_run && rt run < stdin).
+Makes documents of 1, 10 and 1,000 citations, author-date as users have them (that of bench.py), and
+prints of each the best time of
+--runs calls of gamhilon_render_text and of gamhilon_render_json, each in a buffer that fits, and of
+--runs starts of cite_run. Build both first: embed/build.py, and (cd crates/cite_run && rt run <
+stdin).
 """
 import argparse
 import json

@@ -1,9 +1,11 @@
 #!/usr/bin/env python3
-"""gate_times.py PID LOG: looks at the provers and compilers below the process PID twice a second until it is told to end
-(SIGTERM), and then prints a line for each crate and kind of task: from when to when it ran, its processor time and the
-most memory that it held. What a process does after it was last looked at is missed. A crate's seed is the check that its
-must-fail edits begin with, and the one that ends them. Then it prints a line for each kind, and how many proofs and edits
-`rt ci` says in LOG that it kept from an earlier run: only where that is none are these the times from nothing."""
+"""gate_times.py PID LOG: looks at the provers and compilers below the process PID twice a second
+until it is told to end (SIGTERM), and then prints a line for each crate and kind of task: from when
+to when it ran, its processor time and the most memory that it held. What a process does after it
+was last looked at is missed. A crate's seed is the check that its must-fail edits begin with, and
+the one that ends them. Then it prints a line for each kind, and how many proofs and edits `rt ci`
+says in LOG that it kept from an earlier run: only where that is none are these the times from
+nothing."""
 import os
 import re
 import signal

@@ -1,11 +1,13 @@
 #!/usr/bin/env python3
-"""published.py PROGRAM [COUNT..]: citations in published styles by the program gamhilon, and by pandoc --citeproc.
+"""published.py PROGRAM [COUNT..]: citations in published styles by the program gamhilon, and by
+pandoc --citeproc.
 
-PROGRAM is crates/gamhilon/out/gamhilon. For each of three styles and each count of citations (1600 and 6400 where none is told), prints
-the processor time and the memory of the fastest of five runs of each that writes all citations as text, and how much longer the
-program takes for more citations. There are half as many works as citations, of families that share authors and years, so that cites
-have to be told apart; each fourth citation has two cites, and each third a locator. Needs pandoc and Debian's
-citation-style-language-styles.
+PROGRAM is crates/gamhilon/out/gamhilon. For each of three styles and each count of citations (1600
+and 6400 where none is told), prints the processor time and the memory of the fastest of five runs
+of each that writes all citations as text, and how much longer the program takes for more citations.
+There are half as many works as citations, of families that share authors and years, so that cites
+have to be told apart; each fourth citation has two cites, and each third a locator. Needs pandoc
+and Debian's citation-style-language-styles.
 """
 import json
 import os
@@ -49,7 +51,8 @@ def markdown(cites):
 
 
 def measured(words, folder):
-    """The seconds of a processor and the bytes of memory that a command takes, where it is fastest."""
+    """The seconds of a processor and the bytes of memory that a command takes, where it is
+    fastest."""
     return min(measured_once(words, folder) for _ in range(RUNS))
 
 

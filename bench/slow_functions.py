@@ -1,9 +1,11 @@
 #!/usr/bin/env python3
-"""slow_functions.py CRATE [COUNT]: which functions a first `rt check --jobs 1` of a crate spent its time on, and how much of it on
-the part of the borrow checker, which grows with what a function owns at each place where it may leave.
+"""slow_functions.py CRATE [COUNT]: which functions a first `rt check --jobs 1` of a crate spent its
+time on, and how much of it on the part of the borrow checker, which grows with what a function owns
+at each place where it may leave.
 
-It reads when each file of crates/CRATE/out/incremental was written: the time since the one before is counted for the function
-that the file is about. So it tells something only of a check from nothing, by one job, with nothing kept before it."""
+It reads when each file of crates/CRATE/out/incremental was written: the time since the one before
+is counted for the function that the file is about. So it tells something only of a check from
+nothing, by one job, with nothing kept before it."""
 import os
 import sys
 
@@ -19,7 +21,8 @@ def written(folder):
 
 
 def function_of(name):
-    """The function that a file is about: the parts behind its name are the prover's own, and begin with a capital letter."""
+    """The function that a file is about: the parts behind its name are the prover's own, and begin
+    with a capital letter."""
     parts = name.split('.')[:-1]
     while len(parts) > 1 and (parts[-1] == 'decls' or parts[-1][:1].isupper()):
         parts.pop()

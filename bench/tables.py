@@ -1,13 +1,15 @@
 #!/usr/bin/env python3
-"""How long an answer from a table takes, against one by the layouts of styles, of the same document.
+"""How long an answer from a table takes, against one by the layouts of styles, of the same
+document.
 
     bench/tables.py [--program PATH] [--kinds NAME,..] [--runs N]
 
-Makes documents of 1,000 and 4,000 citations of each kind (those of bench.py that users have), and has crates/test_tables answer
-each by layouts (`finish_with` over a layout writer) and by `host_driver::drive`, over a table of what the layouts write. Reading, and
-filling the table, are taken off: the time of an answer is a sixth of what seven answers take longer than one, the best of --runs
-runs each. Prints both in milliseconds, their ratio, and by how much the time from the table grows from 1,000 to 4,000.
-Build the program first: (cd crates/test_tables && rt run < stdin).
+Makes documents of 1,000 and 4,000 citations of each kind (those of bench.py that users have), and
+has crates/test_tables answer each by layouts (`finish_with` over a layout writer) and by
+`host_driver::drive`, over a table of what the layouts write. Reading, and filling the table, are
+taken off: the time of an answer is a sixth of what seven answers take longer than one, the best of
+--runs runs each. Prints both in milliseconds, their ratio, and by how much the time from the table
+grows from 1,000 to 4,000. Build the program first: (cd crates/test_tables && rt run < stdin).
 """
 import argparse
 import json

@@ -1,10 +1,12 @@
 #!/usr/bin/env python3
-"""run.py [PROGRAM]: holds README.md, CONTRIBUTING.md and docs/ to the tree, and runs what they show.
+"""run.py [PROGRAM]: holds README.md, CONTRIBUTING.md and docs/ to the tree, and runs what they
+show.
 
-Each file that a page names is there, and so is each crate, module, definition and function: every word that stands in
-backquotes and looks like a name occurs in the code. Each definition of docs/DEFINITIONS.md stands in specs/ of a crate that
-its section names. With a built cite_run, each document of docs/TUTORIAL.md gives the output that stands below it.
-The last line is 'N passed, M failed', and the exit status is 1 where one failed."""
+Each file that a page names is there, and so is each crate, module, definition and function: every
+word that stands in backquotes and looks like a name occurs in the code. Each definition of
+docs/DEFINITIONS.md stands in specs/ of a crate that its section names. With a built cite_run, each
+document of docs/TUTORIAL.md gives the output that stands below it. The last line is 'N passed, M
+failed', and the exit status is 1 where one failed."""
 import glob
 import os
 import re

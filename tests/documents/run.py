@@ -1,32 +1,38 @@
 #!/usr/bin/env python3
-"""run.py PROGRAM: runs a built cite_run on each document of this folder and of examples/, side by side, and compares
-standard output, exit status and the line on standard error. Then it tries what only a process can show, holds the
-documents to docs/document.schema.json, compares PROGRAM with tests/model on random documents, and holds the model to what
-the documents must print. It has crates/test_calls, which is looked for beside it (../../test_calls/out/test_calls),
-answer the documents by the public calls: each by `finish` or, where it says so, by `finish_full` or `finish_csl`; and where
-there is a NAME.account, by `finish_counted` or that call once more, of which the account is printed, or why there is none; where
-there is a NAME.alone, each request by `standalone_citation`; where there is a NAME.passes, by the passes themselves, on cites
-that are written without a driver; where there is a NAME.equality, it is told which requests are equal to the first, and whether that
-for the bibliography is one for its style alone. A copy of each answer has to be equal to it. It tells where each document that is
-refused is wrong, which faults.txt has for most of them, and nothing of the others. crates/test_tables, which is looked for
-likewise, answers each document that has an answer once more from a table of what its styles write; with any one thing taken out
-exactly that has to be missing, and a table that is empty at first has to be filled in at most three calls more than rounds mark.
-Where there is a NAME.context, crates/test_contexts prints what calls of a writing context give in the document's first style, and
-where there is a NAME.cites, what calls that render its entries give. crates/test_rows, which has cases that no document can
-express, has to say of each that it is as it should be. It refuses each growth of memory in turn (refuse.c, for which a C compiler
-must be there), in all of these programs but the last; each such sweep is for some calls, and fails where one of them met no
-refusal. Without the library jsonschema the documents aren't held to the schema: a line says so, and where the environment has CI
-set, it fails.
+"""run.py PROGRAM: runs a built cite_run on each document of this folder and of examples/, side by
+side, and compares standard output, exit status and the line on standard error. Then it tries what
+only a process can show, holds the documents to docs/document.schema.json, compares PROGRAM with
+tests/model on random documents, and holds the model to what the documents must print. It has
+crates/test_calls, which is looked for beside it (../../test_calls/out/test_calls), answer the
+documents by the public calls: each by `finish` or, where it says so, by `finish_full` or
+`finish_csl`; and where there is a NAME.account, by `finish_counted` or that call once more, of
+which the account is printed, or why there is none; where there is a NAME.alone, each request by
+`standalone_citation`; where there is a NAME.passes, by the passes themselves, on cites that are
+written without a driver; where there is a NAME.equality, it is told which requests are equal to the
+first, and whether that for the bibliography is one for its style alone. A copy of each answer has
+to be equal to it. It tells where each document that is refused is wrong, which faults.txt has for
+most of them, and nothing of the others. crates/test_tables, which is looked for likewise, answers
+each document that has an answer once more from a table of what its styles write; with any one thing
+taken out exactly that has to be missing, and a table that is empty at first has to be filled in at
+most three calls more than rounds mark. Where there is a NAME.context, crates/test_contexts prints
+what calls of a writing context give in the document's first style, and where there is a NAME.cites,
+what calls that render its entries give. crates/test_rows, which has cases that no document can
+express, has to say of each that it is as it should be. It refuses each growth of memory in turn
+(refuse.c, for which a C compiler must be there), in all of these programs but the last; each such
+sweep is for some calls, and fails where one of them met no refusal. Without the library jsonschema
+the documents aren't held to the schema: a line says so, and where the environment has CI set, it
+fails.
 run.py PROGRAM FOLDER..: runs it on the documents of these folders, and does nothing else.
 
-A document is NAME.json. NAME.txt is what it must print; where the status isn't 0, NAME.status has it, and nothing is
-printed. What is expected was worked out by hand from the rules, never taken from the program. The folders:
-rows/ whole runs; layouts/ each kind of element; words/ locales, terms, quotes and punctuation; purposes/ what cites are
-written for; keywords/ each name of a variable, term, form and so on; parts/ each kind of object with all its keys;
-disambiguation/, rounds/, grouping/, collapsing/ and bibliography/ how cites and items work together, csl/ how they do in the mode
-`csl`, alone/ citations that
-stand for themselves, equality/ requests that are equal and others (each with a README.md that tells why a document prints what it does); hostile/ depth; refused/ what the program and the schema refuse;
-beyond_schema/ what the program alone refuses.
+A document is NAME.json. NAME.txt is what it must print; where the status isn't 0, NAME.status has
+it, and nothing is printed. What is expected was worked out by hand from the rules, never taken from
+the program. The folders: rows/ whole runs; layouts/ each kind of element; words/ locales, terms,
+quotes and punctuation; purposes/ what cites are written for; keywords/ each name of a variable,
+term, form and so on; parts/ each kind of object with all its keys; disambiguation/, rounds/,
+grouping/, collapsing/ and bibliography/ how cites and items work together, csl/ how they do in the
+mode `csl`, alone/ citations that stand for themselves, equality/ requests that are equal and others
+(each with a README.md that tells why a document prints what it does); hostile/ depth; refused/ what
+the program and the schema refuse; beyond_schema/ what the program alone refuses.
 The last line is 'N passed, M failed', and the exit status is 1 where a test failed."""
 import difflib
 import json
@@ -230,7 +236,8 @@ def tests_of_tables(tables, bases):
 
 
 def tests_of_contexts(contexts, bases):
-    """What crates/test_contexts is to do with the documents that tell what calls of a writing context give, or calls that render."""
+    """What crates/test_contexts is to do with the documents that tell what calls of a writing
+    context give, or calls that render."""
     asked = [(way, it) for way in ('context', 'cites') for it in bases if os.path.isfile(it + '.' + way)]
     return [('%s: %s' % (way, name_of(it)), by_calls, contexts, way, it, 0, read(it + '.' + way)) for way, it in asked]
 
@@ -288,7 +295,8 @@ def depth(value):
 
 
 def value_of(data):
-    """The JSON value of some bytes, as docs/DOCUMENT.md has it, or what is told of those that are none, but for where."""
+    """The JSON value of some bytes, as docs/DOCUMENT.md has it, or what is told of those that are
+    none, but for where."""
     try:
         value = json.loads(data.decode())
     except UnicodeDecodeError as error:
@@ -307,8 +315,8 @@ def is_found(value, found):
 
 
 def fault(calls, base, must):
-    """A refused document's fault is told, and leads to a part of it that is as it tells, or tells that the document is no JSON, where
-    it is none; of any other document nothing is told."""
+    """A refused document's fault is told, and leads to a part of it that is as it tells, or tells
+    that the document is no JSON, where it is none; of any other document nothing is told."""
     status, _ = wanted(base)
     got = ended(calls, b'fault\n' + read(base + '.json'))
     if got[0] != 0 or bool(got[1]) != (status == 2):
@@ -334,7 +342,8 @@ def faults(calls, bases):
 
 
 def failing_writer(calls):
-    """`run` over a writer that takes n bytes and then fails, for each n: what went out is a beginning of the text."""
+    """`run` over a writer that takes n bytes and then fails, for each n: what went out is a
+    beginning of the text."""
     base = HERE + '/rows/offset_and_order'
     _, text = wanted(base)
     for count in range(len(text) + 1):
@@ -349,8 +358,8 @@ def slow_reader(calls):
 
 
 def most_reads(calls):
-    """`read_input` makes 1,048,576 reads at most, and the last must find the end: over a reader that gives a byte at each read,
-    one byte less is the longest input."""
+    """`read_input` makes 1,048,576 reads at most, and the last must find the end: over a reader
+    that gives a byte at each read, one byte less is the longest input."""
     for length, status in ((1048575, 0), (1048576, 1)):
         given = b' ' * length
         got = ended(calls, b'slow\n' + given)
@@ -529,7 +538,8 @@ def refused_with_the_output_closed(program):
 
 
 def output_takes_so_many_bytes(program):
-    """A file that takes no more than n bytes, for each n: the write fails then, and what went out is a beginning."""
+    """A file that takes no more than n bytes, for each n: the write fails then, and what went out
+    is a beginning."""
     given, text = row('rows/offset_and_order')
 
     def limit(count):
@@ -673,8 +683,9 @@ def compiled(folder):
 
 
 def refused_in_turn(shim, program, given, judge):
-    """Runs with the first growth refused, the second, and on until none is refused; gives the lines of standard error of each
-    run, in which `!` stands where a growth was refused. `judge` gets the number of the growth, status, output and these lines."""
+    """Runs with the first growth refused, the second, and on until none is refused; gives the lines
+    of standard error of each run, in which `!` stands where a growth was refused. `judge` gets the
+    number of the growth, status, output and these lines."""
     runs = []
     for n in range(1, MOST_GROWTHS):
         status, out, error = ended(program, given, env={'LD_PRELOAD': shim, 'REFUSE': str(n)})
@@ -690,8 +701,9 @@ def refused_in_turn(shim, program, given, judge):
 
 
 def sweep_of_program(shim, program, name):
-    """Each run ends in status 5, or 1 while the input is read (whose buffer and bytes are the first two growths), with nothing
-    printed; or in the answer, as where a list that is done could not be made smaller. At the end the answer comes."""
+    """Each run ends in status 5, or 1 while the input is read (whose buffer and bytes are the first
+    two growths), with nothing printed; or in the answer, as where a list that is done could not be
+    made smaller. At the end the answer comes."""
     given, text = row(name)
     ends = []
 
@@ -709,7 +721,8 @@ def sweep_of_program(shim, program, name):
 
 
 def held_call(called, status, out, text, status_wanted):
-    """What a run of a program of calls must end in: the refusal of the call whose growth was refused, or the answer."""
+    """What a run of a program of calls must end in: the refusal of the call whose growth was
+    refused, or the answer."""
     at = called[called.index('!') - 1] if '!' in called else None
     if at == 'citation' and status_wanted == 0:
         # the request that came back was handed in again
@@ -732,8 +745,8 @@ def held_call(called, status, out, text, status_wanted):
 
 
 def sweep_of_calls(shim, program, way, swept, given, status_wanted, text):
-    """Each run ends in the refusal of the very call whose growth was refused, or in the answer; and each of the calls that are
-    swept is refused in some run."""
+    """Each run ends in the refusal of the very call whose growth was refused, or in the answer; and
+    each of the calls that are swept is refused in some run."""
 
     def judge(_n, status, out, lines):
         called = [it for it in lines if it in CALLS or it == '!']
@@ -748,8 +761,8 @@ def sweep_of_calls(shim, program, way, swept, given, status_wanted, text):
 
 
 def sweep_of_free(shim, program, given):
-    """The calls of `FREE` are named before they are made, and `prepare` stands before what they need: no growth is refused
-    between a call's name and the next line."""
+    """The calls of `FREE` are named before they are made, and `prepare` stands before what they
+    need: no growth is refused between a call's name and the next line."""
 
     def judge(_n, status, out, lines):
         if '!' not in lines:
@@ -777,7 +790,8 @@ def sweeps_of_contexts(shim, program):
 
 
 def sweeps_of_answers(shim, program):
-    """Those of the calls that answer whole documents. Requests are of prepared styles, and under `finish unprepared` of none."""
+    """Those of the calls that answer whole documents. Requests are of prepared styles, and under
+    `finish unprepared` of none."""
     made = []
     for way, names in (('finish', SWEPT), ('finish unprepared', SWEPT), ('finish_counted', SWEPT), ('finish_full', SWEPT_FULL), ('finish_csl', SWEPT_CSL)):
         for name in [*names, *SWEPT_REFUSALS]:
@@ -824,7 +838,8 @@ def sweeps(program, calls, tables, contexts):
 
 
 def model(program, *mode):
-    """The model of tests/model gives what the program gives, on random documents, of this mode where one is named."""
+    """The model of tests/model gives what the program gives, on random documents, of this mode
+    where one is named."""
     words = [sys.executable, 'compare.py', program, '0', str(RANDOM_DOCUMENTS), *mode]
     done = subprocess.run(words, cwd=ROOT + '/tests/model', stdout=subprocess.PIPE, stderr=subprocess.STDOUT)
     if done.returncode:
@@ -874,7 +889,8 @@ def name_of(base):
 
 
 def main_of_folders(program, folders):
-    """Runs the documents of these folders, one after another, and names each that gave what it must."""
+    """Runs the documents of these folders, one after another, and names each that gave what it
+    must."""
     results = []
     for base in documents([os.path.abspath(it) for it in folders]):
         results.append(tried(name_of(base), document, program, base))

@@ -1,11 +1,13 @@
 """The wrong bodies that have to be refused, and on which tree each was refused last.
 
-An edit of CRATE/NAME is tests/edits/CRATE/NAME.edit or, where the gate tries it, crates/CRATE/must-fail/NAME.edit: a line
-`file: PATH` in its crate, and pairs of lines `old: TEXT`, which stands there once, and `new: TEXT`. The edits of tests/edits/proved
-are of crates/, are allowed by all contracts, and tell by lines `shown: ..` which tests have to notice them (proved.py).
+An edit of CRATE/NAME is tests/edits/CRATE/NAME.edit or, where the gate tries it,
+crates/CRATE/must-fail/NAME.edit: a line `file: PATH` in its crate, and pairs of lines `old: TEXT`,
+which stands there once, and `new: TEXT`. The edits of tests/edits/proved are of crates/, are
+allowed by all contracts, and tell by lines `shown: ..` which tests have to notice them (proved.py).
 
-tried.txt has a line for each edit that was refused: CRATE/NAME and a checksum of the edit and of what it was tried on, which is src/
-and specs/ of its crate and of all crates below that one (of an edit of proved: of the programs that show it)."""
+tried.txt has a line for each edit that was refused: CRATE/NAME and a checksum of the edit and of
+what it was tried on, which is src/ and specs/ of its crate and of all crates below that one (of an
+edit of proved: of the programs that show it)."""
 import collections
 import glob
 import hashlib
@@ -150,7 +152,8 @@ def records():
 
 
 def record(refused, others):
-    """Notes the checksums of the edits that were refused, and forgets those of the others that were tried, or that are no more."""
+    """Notes the checksums of the edits that were refused, and forgets those of the others that were
+    tried, or that are no more."""
     known = {**records(), **refused}
     every = {**edits_of_gate(), **edits_here()}
     kept = sorted(it for it in known if it in every and it not in others)

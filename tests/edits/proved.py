@@ -1,12 +1,13 @@
-"""Edits that every contract allows, which tests have to notice: a call may always be refused for want of memory, and no contract says
-how often an entry is asked. A line `shown: ..` of such an edit says what shows it,
+"""Edits that every contract allows, which tests have to notice: a call may always be refused for
+want of memory, and no contract says how often an entry is asked. A line `shown: ..` of such an edit
+says what shows it,
 
     shown: PROGRAM WAY DOCUMENT..    the program (as test_calls) in this way of its own, on documents of tests/documents: it
                                      ends by itself, and does not print what each of them must
     shown: PROGRAM CASE              the case that the program (test_rows) runs by itself, of which it says that it isn't as it should be
 
-where `./test` shows that the tree without the edit prints what it must. `rt try` compiles the edited copy of the crates;
-it proves nothing."""
+where `./test` shows that the tree without the edit prints what it must. `rt try` compiles the
+edited copy of the crates; it proves nothing."""
 import os
 import re
 import shutil

@@ -1,17 +1,22 @@
 #!/usr/bin/env python3
-"""run.py [CRATE..] [CRATE/EDIT..]: tries the edits of this folder, all or those of these crates (`proved` stands for those that tests
-notice), and notes in tried.txt the tree on which each was refused.
+"""run.py [CRATE..] [CRATE/EDIT..]: tries the edits of this folder, all or those of these crates
+(`proved` stands for those that tests notice), and notes in tried.txt the tree on which each was
+refused.
 run.py --named: the same of the bodies of named.txt.
-run.py --stale: tries those of named.txt of which tried.txt has another tree than this one, and notes nothing.
-run.py --applied: only looks whether each edit can be applied, which takes no prover. It doesn't tell whether what comes of it
-compiles, or is refused: that is known of those of which tried.txt has this tree, and it tells how many they are.
-run.py --gate LOG: looks whether each edit of crates/*/must-fail was refused in the run of `rt ci` whose output is LOG.
+run.py --stale: tries those of named.txt of which tried.txt has another tree than this one, and
+notes nothing.
+run.py --applied: only looks whether each edit can be applied, which takes no prover. It doesn't
+tell whether what comes of it compiles, or is refused: that is known of those of which tried.txt has
+this tree, and it tells how many they are.
+run.py --gate LOG: looks whether each edit of crates/*/must-fail was refused in the run of `rt ci`
+whose output is LOG.
 
-The tree is copied, with the edits that are asked for in place of those of the gate, and `rt ci` tries them, the crates side by
-side: it takes over what an earlier run on this machine proved, and goes on where one was stopped. An edit passes where a goal of
-the crate refuses it: not where it can't be applied or compiled, nor where a proof file only names what it took away, nor by a
-limit of the prover, since none of these says anything of a contract. edits.py says what an edit is, and proved.py how those are
-tried that all contracts allow.
+The tree is copied, with the edits that are asked for in place of those of the gate, and `rt ci`
+tries them, the crates side by side: it takes over what an earlier run on this machine proved, and
+goes on where one was stopped. An edit passes where a goal of the crate refuses it: not where it
+can't be applied or compiled, nor where a proof file only names what it took away, nor by a limit of
+the prover, since none of these says anything of a contract. edits.py says what an edit is, and
+proved.py how those are tried that all contracts allow.
 The last line is 'N passed, M failed', and the exit status is 1 where one failed."""
 import os
 import re
@@ -103,7 +108,8 @@ def refused_by_prover(copy, wanted):
 
 
 def tried(wanted):
-    """Tries these edits, and gives the checksums of those that were refused, and which others there are."""
+    """Tries these edits, and gives the checksums of those that were refused, and which others there
+    are."""
     tree = Tree()
     by_tests = {key: path for key, path in wanted.items() if crate_of(key) == PROVED}
     by_prover = {key: path for key, path in wanted.items() if key not in by_tests}

@@ -207,8 +207,8 @@ class CslMode:
         return next(cite for row in self.rows for cite in row if cite.key == key)
 
     def item_properties(self, key):
-        """With the number and the first note of the first cite of its entry in the final order, as a
-        later cite that repeats none and is near none; no names are added."""
+        """With the number and the first note of the first cite of its entry in the final order, as
+        a later cite that repeats none and is near none; no names are added."""
         cite, later = self.first_in_the_end(key), self.laters[self.listed.index(key)]
         means = Means(None, later.chosen, self.suffixes.get(key))
         return Properties(cite.number, None, cite.first_note, False, False,

@@ -1,6 +1,8 @@
-"""Styles and locales that are refused, and others that are read with warnings: what must be said of each, worked out by hand.
+"""Styles and locales that are refused, and others that are read with warnings: what must be said of
+each, worked out by hand.
 
-In a document `¦` stands at the place that must be told, and is taken out. Faults and warnings have their words."""
+In a document `¦` stands at the place that must be told, and is taken out. Faults and warnings have
+their words."""
 
 HEAD = '<style xmlns="http://purl.org/net/xbiblio/csl" version="1.0" class="in-text">\n'
 INFO = ' <info>\n  <title>T</title>\n  <id>i</id>\n </info>\n'

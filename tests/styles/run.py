@@ -1,16 +1,18 @@
 #!/usr/bin/env python3
-"""run.py GAMHILON TEST_STYLE_FILES [--mutate N] [--seed S]: tries two built programs, crates/gamhilon, which checks files, and
-crates/test_style_files, on styles and locales.
+"""run.py GAMHILON TEST_STYLE_FILES [--mutate N] [--seed S]: tries two built programs,
+crates/gamhilon, which checks files, and crates/test_style_files, on styles and locales.
 
-Each file of documents/, and of Debian's packages citation-style-language-styles and citation-style-language-locales, is read,
-with no warning but those of EXPLAINED, and says what it says by xml.etree (said.py: each element with all its values); packages
-that aren't installed are named. So do files with all names of CSL 1.0.2 (tests/csl_names.py). The files of broken.py are refused, or
-warned of, at their places and in their words, or just allowed. N files
-(3000, if not said) are made by changes of others, drawn by the seed: each is refused at a place of the text, or read; with no
-warning it says what it says by xml.etree. Each growth of memory is refused in turn (tests/documents/refuse.c, for which a C
-compiler must be there). Four times as much takes about four times as long, and the packages' files take at most 1.5 times as
-long as xml.etree takes for their trees: processor times, each the least of three, measured anew before one is too long. The
-last line is 'N passed, M failed', and the exit status is 1 where a test failed."""
+Each file of documents/, and of Debian's packages citation-style-language-styles and
+citation-style-language-locales, is read, with no warning but those of EXPLAINED, and says what it
+says by xml.etree (said.py: each element with all its values); packages that aren't installed are
+named. So do files with all names of CSL 1.0.2 (tests/csl_names.py). The files of broken.py are
+refused, or warned of, at their places and in their words, or just allowed. N files
+(3000, if not said) are made by changes of others, drawn by the seed: each is refused at a place of
+the text, or read; with no warning it says what it says by xml.etree. Each growth of memory is
+refused in turn (tests/documents/refuse.c, for which a C compiler must be there). Four times as much
+takes about four times as long, and the packages' files take at most 1.5 times as long as xml.etree
+takes for their trees: processor times, each the least of three, measured anew before one is too
+long. The last line is 'N passed, M failed', and the exit status is 1 where a test failed."""
 import argparse
 import collections
 import glob
@@ -52,7 +54,8 @@ def ended(program, documents, *words, **how):
 
 
 class Answer:
-    """What the program says of a file: warnings, as line, column and words; the digest of what it says, or its fault."""
+    """What the program says of a file: warnings, as line, column and words; the digest of what it
+    says, or its fault."""
 
     def __init__(self):
         self.warnings, self.digest, self.fault = [], None, None
@@ -168,7 +171,8 @@ def allowed(programs):
 
 
 def names_of_csl(programs):
-    """Each name of CSL 1.0.2 is known where it stands for a variable, a type, a locator type, a term, and a form of one."""
+    """Each name of CSL 1.0.2 is known where it stands for a variable, a type, a locator type, a
+    term, and a form of one."""
     documents = [csl_names.style_of_names(), csl_names.locale_of_names()]
     for document, answer in zip(documents, answers(programs, documents)):
         if answer.fault or answer.warnings or answer.digest != digest(document):
@@ -254,8 +258,8 @@ def mutations(programs, count, seed):
 
 
 def refused_in_turn(programs, document):
-    """Each run with a growth refused ends with status 5, or 1 while the input is read, and prints nothing; or with the answer.
-    Reading is refused some, and at last none is refused."""
+    """Each run with a growth refused ends with status 5, or 1 while the input is read, and prints
+    nothing; or with the answer. Reading is refused some, and at last none is refused."""
     run = lambda environment: ended(programs.test_style_files, [document], 'calls', env=environment)
     refused, in_reading = runs.refused_in_turn(run, unread=1)
     if in_reading < 20:

@@ -1,4 +1,5 @@
-"""What a style file or a locale file says, by xml.etree, in the lines of crates/test_style_files/src/dump.rt.
+"""What a style file or a locale file says, by xml.etree, in the lines of
+crates/test_style_files/src/dump.rt.
 
 It reads what CSL 1.0.2 has, and is for files that have nothing else."""
 import xml.etree.ElementTree
@@ -21,7 +22,8 @@ RENDERING = ('text', 'number', 'label', 'date', 'names', 'group', 'choose')
 
 
 def name_options(form, delimiter):
-    """The options of names in their order, where their form and their delimiter have these names."""
+    """The options of names in their order, where their form and their delimiter have these
+    names."""
     return (
         'and',
         delimiter + '!',
@@ -73,8 +75,8 @@ def only(element, name):
 
 
 def values(element, keys):
-    """The values of these attributes, as `KEY=VALUE`. A key with `!` is a text; one with `?` is a text that is left out where it is
-    empty; `KEY=DEFAULT` is left out where it has that value."""
+    """The values of these attributes, as `KEY=VALUE`. A key with `!` is a text; one with `?` is a
+    text that is left out where it is empty; `KEY=DEFAULT` is left out where it has that value."""
     found = []
     for key in keys:
         name, _, default = key.rstrip('!?').partition('=')
@@ -261,7 +263,8 @@ def say_bibliography(section, lines):
 
 
 def ordered(macros):
-    """Macros, those that call nothing first, and then each as soon as all that it calls have come."""
+    """Macros, those that call nothing first, and then each as soon as all that it calls have
+    come."""
     waiting = {it.get('name'): [text.get('macro') for text in it.iter(CSL + 'text') if text.get('macro')] for it in macros}
     callers = {name: [] for name in waiting}
     for name, calls in waiting.items():

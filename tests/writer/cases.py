@@ -1,5 +1,5 @@
-"""Small styles and references with the texts that the rules of CSL 1.0.2 ask for; each names the section of the specification that it
-follows. The texts are written by hand from these sections."""
+"""Small styles and references with the texts that the rules of CSL 1.0.2 ask for; each names the
+section of the specification that it follows. The texts are written by hand from these sections."""
 
 BOOK = {'id': 'book', 'type': 'book', 'title': 'the art of rivers', 'author': [{'family': 'Roe', 'given': 'Jane Ann'}],
         'publisher': 'North Press', 'publisher-place': 'Oslo', 'edition': '2', 'volume': '4', 'number-of-pages': '312',

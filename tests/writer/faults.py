@@ -1,6 +1,7 @@
-"""Wrong command lines and wrong files: the exit status, and the lines on standard error. FILE/ in a line is the folder of the files, and
-a line that ends with … may go on in other words: those of the readers, which have tests of their own. docs/WRITER.md says what the lines
-are made of; the places are counted by hand."""
+"""Wrong command lines and wrong files: the exit status, and the lines on standard error. FILE/ in a
+line is the folder of the files, and a line that ends with … may go on in other words: those of the
+readers, which have tests of their own. docs/WRITER.md says what the lines are made of; the places
+are counted by hand."""
 
 STYLE = ('<style xmlns="http://purl.org/net/xbiblio/csl" class="in-text" version="1.0">\n'
          '<info><title>T</title><id>T</id><updated>2026-01-01T00:00:00+00:00</updated></info>\n'
@@ -31,7 +32,8 @@ def ring():
 
 
 def style_of(layout, *more):
-    """A style that writes this, with these elements behind `info`; it lists its items in the order of their titles."""
+    """A style that writes this, with these elements behind `info`; it lists its items in the order
+    of their titles."""
     return (STYLE.replace('<citation>', ''.join(more) + '<citation>').replace('<text variable="title"/>', layout)
             .replace('</citation>', '</citation><bibliography><sort><key variable="title"/></sort><layout><text variable="title"/>'
                                     '</layout></bibliography>'))
@@ -49,7 +51,8 @@ def many_names(count):
 
 
 def calling(count, calls):
-    """A document with this many macros, of which each calls the next one so many times, and the last one writes."""
+    """A document with this many macros, of which each calls the next one so many times, and the
+    last one writes."""
     call = ', '.join(['{"kind": "text", "macro": "m%d"}'] * calls)
     macros = ['{"name": "m%d", "children": [%s]}' % (n, call % ((n + 1,) * calls)) for n in range(count - 1)]
     macros.append('{"name": "m%d", "children": [{"kind": "text", "value": "x"}]}' % (count - 1))

@@ -1,5 +1,5 @@
-"""Styles, items and citations that are made of others by changes, drawn by a seed. The program answers each, or refuses it with a status
-and a line of docs/WRITER.md."""
+"""Styles, items and citations that are made of others by changes, drawn by a seed. The program
+answers each, or refuses it with a status and a line of docs/WRITER.md."""
 import copy
 import json
 import os
@@ -63,7 +63,8 @@ def mutated_files(styles, references, citations, count, seed):
 
 
 def is_told(status, out, error):
-    """Whether an answer comes, with warnings at most, or one line tells why none does, behind the warnings."""
+    """Whether an answer comes, with warnings at most, or one line tells why none does, behind the
+    warnings."""
     lines = error.splitlines()
     if status == 0:
         return all(': warning: ' in line for line in lines)

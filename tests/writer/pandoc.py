@@ -1,4 +1,5 @@
-"""The documents of documents/ in the styles of examples/styles, as pandoc's processor writes them: recorded in pandoc.json."""
+"""The documents of documents/ in the styles of examples/styles, as pandoc's processor writes them:
+recorded in pandoc.json."""
 import glob
 import json
 import os

@@ -1,14 +1,17 @@
 #!/usr/bin/env python3
 """run.py GAMHILON [--record] [--mutate N] [--seed S]: tries the built program, crates/gamhilon.
 
-The cases of cases.py, small styles of which the rules of CSL 1.0.2 tell the texts; the command lines and files of faults.py, with
-their exit statuses and lines on standard error; the styles of examples/styles, which `gamhilon check` finds nothing in, which are
-built in byte for byte, and whose citations and bibliographies of documents/ read as pandoc 2.17 writes them (pandoc.json; --record
-writes that file anew, by the pandoc that is installed); documents of examples and tests/documents, which `gamhilon render` answers
-as cite_run does; N triples of files (300, if not said), of which one is changed by changes drawn by the seed (mutations.py): each is
-answered, or refused with a line; and runs in three styles, and of `render`, of which each growth of memory is refused in turn
-(tests/documents/refuse.c, for which a C compiler must be there, and a program that brings no memory of its own, as that of `rt try`
-does). The last line is 'N passed, M failed', and the exit status is 1 where a test failed."""
+The cases of cases.py, small styles of which the rules of CSL 1.0.2 tell the texts; the command
+lines and files of faults.py, with their exit statuses and lines on standard error; the styles of
+examples/styles, which `gamhilon check` finds nothing in, which are built in byte for byte, and
+whose citations and bibliographies of documents/ read as pandoc 2.17 writes them (pandoc.json;
+--record writes that file anew, by the pandoc that is installed); documents of examples and
+tests/documents, which `gamhilon render` answers as cite_run does; N triples of files (300, if not
+said), of which one is changed by changes drawn by the seed (mutations.py): each is answered, or
+refused with a line; and runs in three styles, and of `render`, of which each growth of memory is
+refused in turn (tests/documents/refuse.c, for which a C compiler must be there, and a program that
+brings no memory of its own, as that of `rt try` does). The last line is 'N passed, M failed', and
+the exit status is 1 where a test failed."""
 import argparse
 import glob
 import json
@@ -81,7 +84,8 @@ def is_line(wanted, came):
 
 
 def try_fault(program, fault):
-    """The exit status, the lines on standard error, and all of standard output are the wanted ones."""
+    """The exit status, the lines on standard error, and all of standard output are the wanted
+    ones."""
     with tempfile.TemporaryDirectory(prefix='writer-') as folder:
         written(folder, {'s.csl': STYLE, 'r.json': REFERENCES, 'c.json': CITATIONS, **fault.files})
         words = [word.replace('FILE', folder) for word in fault.words]
@@ -171,7 +175,8 @@ def try_document(program, document, style, wanted):
 
 
 def try_rendered(program, base):
-    """A document of tests/documents has the text or the status that cite_run gives it. Where it is refused, a line names it."""
+    """A document of tests/documents has the text or the status that cite_run gives it. Where it is
+    refused, a line names it."""
     is_refused = os.path.isfile(base + '.status')
     wanted = (int(runs.read(base + '.status')), b'') if is_refused else (0, runs.read(base + '.txt'))
     status, out, error = runs.ended([program, 'render', base + '.json'], b'', SECONDS)
@@ -191,8 +196,8 @@ def try_rendered_json(program):
 
 
 def refused_in_turn(program, words):
-    """Each run with a growth refused ends with status 5 and a line that says so, with status 1 while a file is read, or with the
-    answer; and at last none is refused."""
+    """Each run with a growth refused ends with status 5 and a line that says so, with status 1
+    while a file is read, or with the answer; and at last none is refused."""
     with tempfile.TemporaryDirectory(prefix='writer-') as folder:
         shim = compiled(folder)
         written(folder, {'r.json': REFERENCES, 'c.json': CITATIONS})

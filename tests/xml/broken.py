@@ -1,8 +1,9 @@
 """Documents that must be refused: each with the line, the column and the words of its fault.
 
-`EXPAT` has those that expat refuses at the same place. `RULE` has those that expat refuses too, but that name a place of
-their own: a fault's place is where something else must stand, and what has no end is named where it begins. `BEYOND` has
-those that expat reads: no DOCTYPE, no other encoding and no later XML is read, and there are limits."""
+`EXPAT` has those that expat refuses at the same place. `RULE` has those that expat refuses too, but
+that name a place of their own: a fault's place is where something else must stand, and what has no
+end is named where it begins. `BEYOND` has those that expat reads: no DOCTYPE, no other encoding and
+no later XML is read, and there are limits."""
 
 REFERENCE = "an entity that XML predefines, or a character's number"
 OTHER_ATTRIBUTE = "an attribute that the tag hasn't already"

@@ -1,14 +1,17 @@
 #!/usr/bin/env python3
-"""run.py PROGRAM [--mutate N] [--seed S]: compares PROGRAM, a built test_xml, with Python's xml.etree, which stands on expat.
+"""run.py PROGRAM [--mutate N] [--seed S]: compares PROGRAM, a built test_xml, with Python's
+xml.etree, which stands on expat.
 
-The trees of all documents of documents/, and of all files of Debian's packages citation-style-language-styles and
-citation-style-language-locales, are xml.etree's; those that aren't installed are named. The documents of broken.py are
-refused at their places and in their words. N documents (3000, if not said) are made by changes of others, drawn by the
-seed: each is read, with the same tree, where expat reads it, and else refused at a place of the text, but for what this
-reader refuses by a limit and for names that only the fifth edition of XML 1.0 allows. What a limit just allows is read.
-Each growth of memory is refused in turn (tests/documents/refuse.c, for which a C compiler must be there). Four times as
-much takes about four times as long, and the packages' files no longer than xml.etree takes for their trees.
-The last line is 'N passed, M failed', and the exit status is 1 where a test failed."""
+The trees of all documents of documents/, and of all files of Debian's packages
+citation-style-language-styles and citation-style-language-locales, are xml.etree's; those that
+aren't installed are named. The documents of broken.py are refused at their places and in their
+words. N documents (3000, if not said) are made by changes of others, drawn by the seed: each is
+read, with the same tree, where expat reads it, and else refused at a place of the text, but for
+what this reader refuses by a limit and for names that only the fifth edition of XML 1.0 allows.
+What a limit just allows is read. Each growth of memory is refused in turn
+(tests/documents/refuse.c, for which a C compiler must be there). Four times as much takes about
+four times as long, and the packages' files no longer than xml.etree takes for their trees. The last
+line is 'N passed, M failed', and the exit status is 1 where a test failed."""
 import argparse
 import glob
 import hashlib
@@ -137,7 +140,8 @@ def within_limits(program):
 
 
 def newer_name(document, at):
-    """Whether expat stops at a character of a name that only the fifth edition of XML 1.0 allows."""
+    """Whether expat stops at a character of a name that only the fifth edition of XML 1.0
+    allows."""
     return document[at:].decode()[:1] >= '\x80'
 
 
@@ -183,8 +187,8 @@ def mutations(program, count, seed):
 
 
 def refused_in_turn(program, document):
-    """Each run with a growth refused ends with status 5, or 1 while the input is read, and prints nothing; or with the answer.
-    Reading is refused some, and at last none is refused."""
+    """Each run with a growth refused ends with status 5, or 1 while the input is read, and prints
+    nothing; or with the answer. Reading is refused some, and at last none is refused."""
     run = lambda environment: ended(program, [document], 'calls', env=environment)
     refused, in_reading = runs.refused_in_turn(run, unread=1)
     if in_reading < 10:

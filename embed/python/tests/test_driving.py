@@ -70,8 +70,8 @@ def test_ambiguous_cites_get_suffixes_and_given_names_and_collapse(driver):
 
 
 def test_where_rounds_is_csl_names_and_suffixes_are_told_together(driver):
-    """Jane and John are told by their given names, and the works of Jane by suffixes beside them, in
-    the order of the bibliography. A cite with a locator keeps its year."""
+    """Jane and John are told by their given names, and the works of Jane by suffixes beside them,
+    in the order of the bibliography. A cite with a locator keeps its year."""
     told = []
 
     def noting(task):
