@@ -69,6 +69,10 @@ AUTHOR_YEAR = '<group delimiter=" ">' + names('form="short" and="text"') + YEAR 
 COLLATED = ['role', 'Role', 'rôle', 'roles', 'Smith Zed', 'Smithson Al']
 CHINESE = [{'id': id, 'type': 'book', 'author': [{'family': it[0], 'given': it[1:]} for it in names]}
            for id, names in (('two', ['王小明', '李四']), ('three', ['王小明', '李四', '张三']))]
+VAN_GOGH = {**PAGE, 'author': [{'family': 'Gogh', 'given': 'Vincent', 'dropping-particle': 'de', 'non-dropping-particle': 'van',
+                                'suffix': 'Jr.'}]}
+PARTED_NAMES = ('<group delimiter=" / "><names variable="author"><name>%s</name></names>'
+                '<names variable="author"><name name-as-sort-order="all">%s</name></names></group>')
 FOUR = [several('one', 2000, 'Ape', 'Bee', 'Cat', 'Dog')]
 
 CASES = [
@@ -117,6 +121,13 @@ CASES = [
     cite('particles shown last', 'Global Options: `demote-non-dropping-particle="display-and-sort"`', names('name-as-sort-order="all"'),
          [{**PAGE, 'author': [{'family': 'Gogh', 'given': 'Vincent', 'non-dropping-particle': 'van'}]}], ['Gogh, Vincent van'],
          options='demote-non-dropping-particle="display-and-sort"'),
+    cite('parts of names', 'Name-part: the formatting of the family name is that of a non-dropping particle too, wherever that stands',
+         PARTED_NAMES % (('<name-part name="family" text-case="uppercase"/>',) * 2), [VAN_GOGH],
+         ['Vincent de VAN GOGH Jr. / GOGH, Vincent de VAN, Jr.']),
+    cite('affixes of parts of names', 'Name-part: the affixes of the family name stand around the particles before it and the suffix of a '
+         'name that isn’t turned round, those of the given name around a particle behind it',
+         PARTED_NAMES % (('<name-part name="family" prefix="[" suffix="]"/><name-part name="given" prefix="(" suffix=")"/>',) * 2),
+         [VAN_GOGH], ['(Vincent) [de van Gogh Jr.] / [Gogh], (Vincent de van), Jr.']),
     cite('an institution', 'Name: a literal name is written as it is', names('name-as-sort-order="all"'),
          [{**PAGE, 'author': [{'literal': 'Institute of Lakes'}]}], ['Institute of Lakes']),
     cite('a suffix', 'Names: a suffix stands behind the name, with the sort separator where that is turned round',

@@ -182,11 +182,36 @@ impl<'s> NameList<'s, '_> {
             mark: Some(Mark::Name(self.variable, place)),
             ..Element::PLAIN
         })?;
+        let mut affixed = PartRole::Between;
+        output.open(self.affixes_of(affixed))?;
         for part in parts_of(alloc, &self.rules, name, form, is_inverted)? {
+            if part.affixed != affixed {
+                affixed = part.affixed;
+                output.close()?;
+                output.open(self.affixes_of(affixed))?;
+            }
             self.push_part(alloc, output, &part)?;
         }
         output.close()?;
+        output.close()?;
         Ok(())
+    }
+
+    /// The element of a style that sets the parts of a role.
+    fn setting_of(&self, role: PartRole) -> Option<&'s NamePart> {
+        match role {
+            PartRole::Family => self.rules.family,
+            PartRole::Given => self.rules.given,
+            PartRole::Between => None,
+        }
+    }
+
+    /// An element with the affixes of a role.
+    fn affixes_of(&self, role: PartRole) -> Element<'s> {
+        match self.setting_of(role) {
+            Some(setting) => element_with(&setting.affixes, NOTHING_ASKED),
+            None => Element::PLAIN,
+        }
     }
 
     fn push_part(
@@ -195,11 +220,7 @@ impl<'s> NameList<'s, '_> {
         output: &mut Output<'s>,
         part: &WrittenPart,
     ) -> Result<(), AllocError> {
-        let setting = match part.role {
-            PartRole::Family => self.rules.family,
-            PartRole::Given => self.rules.given,
-            PartRole::Between => None,
-        };
+        let setting = self.setting_of(part.role);
         let text = RichText::of_markup(alloc, part.text.as_str())?;
         let Some(setting) = setting else {
             return output.push_rich(&text);
@@ -217,10 +238,11 @@ fn is_unspaced(word: &str) -> bool {
     word.chars().any(|c| c.is_alphabetic()) && !is_spaced(word)
 }
 
-/// The element of a part of a name.
-fn part_element(part: &NamePart) -> Element<'_> {
+/// The element of a part of a name, without its affixes.
+fn part_element(part: &NamePart) -> Element<'static> {
     Element {
         text_case: part.text_case,
-        ..element_with(&part.affixes, part.formatting)
+        formatting: part.formatting,
+        ..Element::PLAIN
     }
 }

@@ -11,14 +11,17 @@ use std::alloc::{AllocError, Global};
 pub enum PartRole {
     Family,
     Given,
-    /// None: what stands between parts, suffixes and literal names.
+    /// None: what stands between parts, and suffixes.
     Between,
 }
 
 /// A part of a name.
 #[derive(Drop)]
 pub struct WrittenPart {
+    /// Whose formatting and text case it has.
     pub role: PartRole,
+    /// Whose affixes stand around it, and around the parts beside it that have the same.
+    pub affixed: PartRole,
     pub text: String,
 }
 
@@ -68,13 +71,27 @@ struct Parts {
 }
 
 impl Parts {
-    /// Adds a part, unless it is empty.
+    /// Adds a part between its own affixes, unless it is empty.
     fn add(&mut self, role: PartRole, text: &str) -> Result<(), AllocError> {
+        self.add_within(role, role, text)
+    }
+
+    /// Adds a part between the affixes of `affixed`, unless it is empty.
+    fn add_within(
+        &mut self,
+        affixed: PartRole,
+        role: PartRole,
+        text: &str,
+    ) -> Result<(), AllocError> {
         if text.is_empty() {
             return Ok(());
         }
         let text = String::from_str(self.alloc, text)?;
-        self.parts.push(WrittenPart { role, text })?;
+        self.parts.push(WrittenPart {
+            role,
+            affixed,
+            text,
+        })?;
         Ok(())
     }
 
@@ -114,18 +131,22 @@ impl Parts {
         }
     }
 
-    /// Adds a name in the order in which it is spoken.
+    /// Adds a name in the order in which it is spoken. The affixes of the family name stand around
+    /// the particles before it and the suffix behind it, too.
     fn add_upright(
         &mut self,
         person: &PersonName,
         family: &str,
         given: &str,
     ) -> Result<(), AllocError> {
-        let dropping = person.dropping_particle.as_deref();
-        let before = joined(self.alloc, Some(given), dropping)?;
-        self.add(PartRole::Given, before.as_str())?;
-        if !before.is_empty() && !ends_tight(before.as_str(), dropping.is_some()) {
+        let dropping = person.dropping_particle.as_deref().unwrap_or("");
+        self.add(PartRole::Given, given)?;
+        if !given.is_empty() && !ends_tight(given, !dropping.is_empty()) {
             self.add(PartRole::Between, " ")?;
+        }
+        self.add_within(PartRole::Family, PartRole::Given, dropping)?;
+        if !dropping.is_empty() && !ends_tight(dropping, true) {
+            self.add_within(PartRole::Family, PartRole::Between, " ")?;
         }
         let particle = person.non_dropping_particle.as_deref();
         let whole = joined(self.alloc, particle, Some(family))?;
@@ -134,11 +155,12 @@ impl Parts {
             return Ok(());
         };
         let between = if person.has_comma_suffix { ", " } else { " " };
-        self.add(PartRole::Between, between)?;
-        self.add(PartRole::Between, suffix.as_str())
+        self.add_within(PartRole::Family, PartRole::Between, between)?;
+        self.add_within(PartRole::Family, PartRole::Between, suffix.as_str())
     }
 
-    /// Adds a name in sort order.
+    /// Adds a name in sort order. The affixes of the given name stand around a particle that is
+    /// demoted behind it, too; its formatting is that of the family name.
     fn add_inverted(
         &mut self,
         rules: &NameRules<'_>,
@@ -147,20 +169,23 @@ impl Parts {
         given: &str,
     ) -> Result<(), AllocError> {
         let particle = person.non_dropping_particle.as_deref();
-        let dropping = person.dropping_particle.as_deref();
-        let behind = if rules.demotes_particle {
-            self.add(PartRole::Family, family)?;
-            let given = joined(self.alloc, Some(given), dropping)?;
-            joined(self.alloc, Some(given.as_str()), particle)?
+        let (kept, demoted) = if rules.demotes_particle {
+            (None, particle.unwrap_or(""))
         } else {
-            let whole = joined(self.alloc, particle, Some(family))?;
-            self.add(PartRole::Family, whole.as_str())?;
-            joined(self.alloc, Some(given), dropping)?
+            (particle, "")
         };
-        if !behind.is_empty() {
+        let whole = joined(self.alloc, kept, Some(family))?;
+        self.add(PartRole::Family, whole.as_str())?;
+        let dropping = person.dropping_particle.as_deref();
+        let behind = joined(self.alloc, Some(given), dropping)?;
+        if !behind.is_empty() || !demoted.is_empty() {
             self.add(PartRole::Between, rules.sort_separator)?;
-            self.add(PartRole::Given, behind.as_str())?;
         }
+        self.add(PartRole::Given, behind.as_str())?;
+        if !behind.is_empty() && !demoted.is_empty() && !ends_tight(behind.as_str(), true) {
+            self.add_within(PartRole::Given, PartRole::Between, " ")?;
+        }
+        self.add_within(PartRole::Given, PartRole::Family, demoted)?;
         let Some(suffix) = &person.suffix else {
             return Ok(());
         };
