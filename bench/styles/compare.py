@@ -205,13 +205,14 @@ def table(what, results, all_styles, count):
 
 
 def undocumented(lines, citations):
-    """The lines of the table, of the citations and of the causes that docs/STYLES.md lacks."""
+    """The lines of the table, of the citations and of the causes that docs/STYLES.md lacks,
+    wherever its lines are broken."""
     with open(f'{ROOT}/docs/STYLES.md', encoding='utf-8') as file:
-        documented = set(file.read().splitlines())
+        documented = ' '.join(file.read().split())
     wanted = [f'{place + 1}. {told["what"]}: `{markdown(told["cites"])}`'
               for place, told in enumerate(citations)]
     wanted += [f'- **{name}**: {cause}' for name, cause in read('causes.json').items()]
-    return [line for line in lines + wanted if line not in documented]
+    return [line for line in lines + wanted if ' '.join(line.split()) not in documented]
 
 
 def option(words, name):
