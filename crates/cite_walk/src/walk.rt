@@ -232,11 +232,13 @@ impl<'s, 'c> Walk<'s, 'c> {
         Ok(())
     }
 
-    /// Closes a macro. One that has called variables and has text counts as a variable with a
-    /// value.
+    /// Closes a macro. One that has called variables of which all are empty leaves nothing, as a
+    /// group does; one that has called variables and has text counts as a variable with a value.
     fn close_macro(&mut self) -> Result<(), AllocError> {
         let mut frame = self.frames.pop().unwrap_or(Frame::NEW);
-        if self.output.close()? && frame.has_called {
+        if frame.is_in_vain() {
+            self.output.discard();
+        } else if self.output.close()? && frame.has_called {
             frame.has_value = true;
         }
         self.add(frame);
