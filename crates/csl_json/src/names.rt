@@ -24,8 +24,12 @@ pub(crate) const NAME_KEYS: &[&str] = &[
     "suffix",
 ];
 
-/// Takes the parts that have no keys of their own out of the family name and the given name.
+/// Takes the parts that have no keys of their own out of the family name and the given name. A
+/// given name that stands alone stays whole.
 fn take_parts(alloc: Global, person: &mut PersonName, object: &Value) -> Result<(), AllocError> {
+    if person.family.is_none() {
+        return person.remove_quotes(alloc);
+    }
     if object.get("suffix").is_none() {
         person.take_suffix(alloc)?;
     }
@@ -58,9 +62,11 @@ pub(crate) fn name_in_note(alloc: Global, text: &str) -> Result<Name, AllocError
     if person.family.is_none() && person.given.is_none() {
         return Ok(Name::Literal(String::from_str(alloc, text)?));
     }
-    person.take_suffix(alloc)?;
-    person.take_dropping_particle(alloc)?;
-    person.take_non_dropping_particle(alloc)?;
+    if person.family.is_some() {
+        person.take_suffix(alloc)?;
+        person.take_dropping_particle(alloc)?;
+        person.take_non_dropping_particle(alloc)?;
+    }
     person.remove_quotes(alloc)?;
     Ok(Name::Person(person))
 }

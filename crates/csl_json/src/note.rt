@@ -19,7 +19,7 @@ struct NoteLine<'t> {
 }
 
 impl Reader {
-    /// Takes the variables that stand in the first lines of an item's note out of it. What an item
+    /// Takes the variables that stand at the beginning of an item's note out of it. What an item
     /// has under a key of its own stays.
     pub(crate) fn take_note(
         &mut self,
@@ -30,8 +30,7 @@ impl Reader {
         let Some(Value::String(note)) = item.get("note") else {
             return Ok(());
         };
-        let note = note.as_str();
-        let lines: Vec<NoteLine<'_>> = note.lines().map_while(note_line).collect(self.alloc)?;
+        let (lines, rest) = lines_of(self.alloc, note.as_str())?;
         if lines.is_empty() {
             return Ok(());
         }
@@ -40,7 +39,7 @@ impl Reader {
             self.take_line(&place.member("note"), *line, reference, &mut names)?;
         }
         reference.names.append(&mut names)?;
-        set_note(reference, rest_of(self.alloc, note, lines.len())?)
+        set_note(reference, self.of_markup(rest.trim())?)
     }
 
     /// Takes what a line says.
@@ -79,15 +78,35 @@ impl Reader {
     }
 }
 
-/// What a line of a note says of a variable, as `name: value` or `{:name: value}`; none where the
-/// value is empty, or no variable has the name.
+/// What the beginning of a note says of variables, and what stands behind that.
+fn lines_of(alloc: Global, note: &str) -> Result<(Vec<NoteLine<'_>>, &str), AllocError> {
+    let mut lines = Vec::new(alloc);
+    let mut rest = note;
+    for _ in 0..note.len() {
+        let Some((line, behind)) = first_line(rest) else {
+            break;
+        };
+        lines.push(line)?;
+        rest = behind;
+    }
+    Ok((lines, rest))
+}
+
+/// What a note says first of a variable, as a line `name: value` or as `{:name: value}`, and what
+/// stands behind that.
+fn first_line(note: &str) -> Option<(NoteLine<'_>, &str)> {
+    let note = note.trim_start();
+    let (line, behind) = match note.strip_prefix("{:") {
+        Some(inner) => inner.split_once('}')?,
+        None => note.split_once('\n').unwrap_or((note, "")),
+    };
+    Some((note_line(line)?, behind))
+}
+
+/// What `name: value` says of a variable; none where the value is empty, or no variable has the
+/// name.
 fn note_line(line: &str) -> Option<NoteLine<'_>> {
-    let line = line.trim();
-    let line = line
-        .strip_prefix("{:")
-        .and_then(|inner| inner.strip_suffix('}'))
-        .unwrap_or(line);
-    let (name, value) = line.split_once(':')?;
+    let (name, value) = line.trim().split_once(':')?;
     let value = value.trim();
     match key_named(name) {
         Some(Key::Variable(variable) | Key::Older(variable)) if !value.is_empty() => {
@@ -126,19 +145,6 @@ fn add_name(
     first.push(name)?;
     names.push((variable, first))?;
     Ok(())
-}
-
-/// The lines of a note but for the first ones, if something stands there.
-fn rest_of(alloc: Global, note: &str, taken: usize) -> Result<Option<RichText>, AllocError> {
-    let mut rest = String::new(alloc);
-    for line in note.lines().skip(taken) {
-        if !rest.is_empty() {
-            rest.push('\n')?;
-        }
-        rest.push_str(line)?;
-    }
-    let text = RichText::of_markup(alloc, rest.as_str().trim())?;
-    Ok(if text.is_empty() { None } else { Some(text) })
 }
 
 /// Puts another note in the place of a reference's note, or takes it away.

@@ -77,7 +77,7 @@ pub fn is_same_language(tag: &str, other: &str) -> bool {
 /// Where memory is refused.
 pub fn lookup_order(alloc: Global, tag: &str) -> Result<Vec<LocaleSource<'_>>, AllocError> {
     let language = tag.split_once('-').map_or(tag, |parts| parts.0);
-    let primary = primary_dialect(language).unwrap_or(tag);
+    let primary = primary_dialect(language).unwrap_or(language);
     let dialect = if is_same_language(tag, language) {
         primary
     } else {

@@ -67,8 +67,8 @@ fn name_variables(element: &Element, reading: &mut Reading<'_>) -> Result<Vec<Na
     Ok(variables)
 }
 
-/// The `name` and the `label` in a `names`. The label stands before the names where it stands
-/// before their `name`.
+/// The `name` and the `label` in a `names`. The label stands behind the names where it stands
+/// behind their `name`.
 fn name_and_label(
     names: &Element,
     reading: &mut Reading<'_>,
@@ -76,8 +76,8 @@ fn name_and_label(
     let name = only_child(reading.alloc, names, "name")?;
     let label = only_child(reading.alloc, names, "label")?;
     let side = match (name, label) {
-        (Some(name), Some(label)) if label.offset < name.offset => LabelSide::Before,
-        _ => LabelSide::Behind,
+        (Some(name), Some(label)) if name.offset < label.offset => LabelSide::Behind,
+        _ => LabelSide::Before,
     };
     let label = optional_label(label, side, reading)?;
     Ok((optional_name(name, reading)?, label))
