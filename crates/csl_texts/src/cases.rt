@@ -203,7 +203,7 @@ impl<'a> Planned<'a> {
     }
 
     /// The first word begins with a capital. Those behind it lose the one they begin with, unless
-    /// they have others, or begin a sentence of their own.
+    /// they have others, or begin a sentence of their own. Lone letters stay, but for `A`.
     fn push_word_of_sentence(&mut self, word: Word, position: Position) -> Result<(), AllocError> {
         let letters = self.letters(word.span);
         if position.is_first && position.is_shouted {
@@ -212,33 +212,40 @@ impl<'a> Planned<'a> {
             self.capitalize(word.span)
         } else if position.is_shouted && letters != "I" {
             self.lower(word.span)
-        } else if word.gap != Gap::Sentence && is_capitalized(letters) {
+        } else if word.gap != Gap::Sentence && (is_capitalized(letters) || letters == "A") {
             self.lower(word.span)
         } else {
             Ok(())
         }
     }
 
-    /// Each word begins with a capital but stop words, which do only as the first or last word and
-    /// behind a colon, an exclamation mark or a question mark. A capital that a stop word has is
-    /// lost in running text alone, and not behind a quote or a bracket.
+    /// Each word begins with a capital but stop words, which do only as the first or last word,
+    /// behind a colon, an exclamation mark or a question mark, and in front of a compound, as in
+    /// `In-Depth`. A capital that a stop word has is lost in running text alone, and not behind a
+    /// quote or a bracket. A text in capitals stays.
     fn push_word_of_title(&mut self, word: Word, position: Position) -> Result<(), AllocError> {
-        let letters = self.letters(word.span);
-        let is_set_off = position.is_first || position.is_last || word.gap == Gap::Sentence;
-        let is_small = is_stop_word(letters) && !is_set_off;
         if position.is_shouted {
-            if is_small {
-                self.lower(word.span)
-            } else {
-                self.lower_behind_first(word.span)
-            }
-        } else if !is_small && !is_lone_greek(letters) {
+            return Ok(());
+        }
+        let letters = self.letters(word.span);
+        let is_set_off = position.is_first
+            || position.is_last
+            || word.gap == Gap::Sentence
+            || self.begins_compound(word);
+        let is_small = is_stop_word(letters) && !is_set_off;
+        if !is_small && !is_lone_greek(letters) {
             self.capitalize(word.span)
         } else if is_small && word.gap == Gap::Running && is_capitalized(letters) {
             self.lower(word.span)
         } else {
             Ok(())
         }
+    }
+
+    /// Whether a word in running text stands before a hyphen.
+    fn begins_compound(&self, word: Word) -> bool {
+        let behind = self.text.get(word.span.end..).unwrap_or("");
+        word.gap == Gap::Running && behind.starts_with('-')
     }
 
     fn letters(&self, span: Span) -> &'a str {

@@ -43,7 +43,7 @@ struct ShortNames<'a> {
 
 impl ShortNames<'_> {
     fn push_word(&mut self, word: &str) -> Result<(), AllocError> {
-        if self.how.shortens && !has_capital_first(word) {
+        if self.how.shortens && !has_capital_first(word.trim_start_matches('-')) {
             return self.push_kept(word, false);
         }
         for (place, part) in word.split('-').enumerate() {
