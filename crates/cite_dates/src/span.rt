@@ -12,7 +12,7 @@ pub(crate) struct Differing<'s> {
 }
 
 /// Where two dates differ in this layout: from the first to the last of its parts that are no
-/// greater than the greatest in which they do. `None` where they are written alike.
+/// greater than the greatest in which they do. `None` where no part that both have differs.
 pub(crate) fn parted<'s>(
     parts: &[PartLayout<'s>],
     first: &PartialDate,
@@ -73,7 +73,10 @@ fn differs(unit: Unit, first: &PartialDate, last: &PartialDate) -> bool {
     match unit {
         Unit::Year => first.year != last.year,
         Unit::Month => months_differ(&first.part, &last.part),
-        Unit::Day => day_of(&first.part) != day_of(&last.part),
+        Unit::Day => match (day_of(&first.part), day_of(&last.part)) {
+            (Some(first), Some(last)) => first != last,
+            _ => false,
+        },
     }
 }
 
@@ -81,8 +84,7 @@ fn months_differ(first: &Option<YearPart>, last: &Option<YearPart>) -> bool {
     match (first, last) {
         (Some(YearPart::Season(first)), Some(YearPart::Season(last))) => first != last,
         (Some(YearPart::Named(first)), Some(YearPart::Named(last))) => first != last,
-        (None, None) => false,
-        (None, Some(_)) | (Some(_), None) => true,
+        (None, _) | (_, None) => false,
         _ => month_of(first) != month_of(last),
     }
 }

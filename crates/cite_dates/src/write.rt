@@ -20,7 +20,7 @@ pub struct DateOptions<'o> {
 }
 
 /// Writes a date as an element of a style asks for, as a child of the innermost element that is
-/// open. A date without a span is its literal text. Of a range the parts that both dates share are
+/// open. A literal text stands in place of the date. Of a range the parts that both dates share are
 /// written once (1–4 May 2008), and what stands between the dates is that of the greatest part that
 /// differs. A date that lacks all parts that are asked for leaves nothing.
 ///
@@ -40,16 +40,29 @@ pub fn push_date<'s>(
         mark: options.mark,
         ..element_with(&element.affixes, element.formatting)
     })?;
-    match (&date.span, &date.literal) {
-        (Some(span), _) => {
+    match (&date.literal, &date.span) {
+        (Some(literal), _) => push_literal(output, literal.as_str(), options.year_suffix)?,
+        (None, Some(span)) => {
             let layout = layout_of(output.alloc(), locales, element)?;
             push_span(output, locales, &layout, span, options.year_suffix)?;
         }
-        (None, Some(literal)) => output.push_str(literal.as_str())?,
         (None, None) => {}
     }
     output.close()?;
     Ok(())
+}
+
+/// Writes the text of a date, and what stands behind its year.
+fn push_literal(
+    output: &mut Output<'_>,
+    literal: &str,
+    year_suffix: Option<&str>,
+) -> Result<(), AllocError> {
+    output.push_str(literal)?;
+    match year_suffix {
+        Some(suffix) => push_year_suffix(output, suffix),
+        None => Ok(()),
+    }
 }
 
 /// Writes a span in the formatting of the locale's date.
@@ -86,8 +99,10 @@ fn push_span<'s>(
             output.push_str(open_delimiter(&layout.parts))?;
         }
         DateSpan::Until(last) => {
+            output.open(Element::PLAIN)?;
             output.push_str(open_delimiter(&layout.parts))?;
             push_block(output, locales, layout, &layout.parts, last, ends)?;
+            output.close()?;
         }
     }
     output.close()?;
@@ -112,7 +127,8 @@ fn push_range<'s>(
     ends: Ends<'_>,
 ) -> Result<(), AllocError> {
     let Some(range) = parted(&layout.parts, first, last) else {
-        return push_parts(output, locales, &layout.parts, last, ends);
+        let fuller = if last.part.is_none() { first } else { last };
+        return push_parts(output, locales, &layout.parts, fuller, ends);
     };
     let before = layout.parts.get(..range.begin).unwrap_or(&[]);
     let behind = layout.parts.get(range.end..).unwrap_or(&[]);

@@ -9,19 +9,19 @@ use csl_texts::cases::Language;
 use std::alloc::{AllocError, Global};
 use style_file::formatting::TextCase;
 
-/// The names that stand first in a cite, where it has some.
+/// The names that stand first in a cite, with their label, or what stands in for them.
 pub(crate) fn names_alone(alloc: Global, pieces: Pieces) -> Result<Pieces, AllocError> {
-    match first_names(pieces.as_slice()) {
-        Some(place) => pieces.only_mark(alloc, Mark::Names(place)),
+    match first_author(pieces.as_slice()) {
+        Some(mark) => pieces.only_mark(alloc, mark),
         None => Ok(pieces),
     }
 }
 
-/// The number of the first names in a stream.
-fn first_names(pieces: &[Piece]) -> Option<usize> {
+/// The mark of the first names in a stream, or of what stands in for names.
+fn first_author(pieces: &[Piece]) -> Option<Mark> {
     for piece in pieces {
-        if let Piece::Open(Wrap::Mark(Mark::Names(place))) = piece {
-            return Some(*place);
+        if let Piece::Open(Wrap::Mark(Mark::Author(place))) = piece {
+            return Some(Mark::Author(*place));
         }
     }
     None
@@ -75,13 +75,14 @@ pub(crate) fn with_affixes(
     cite: &Cite,
     begins_note: bool,
 ) -> Result<Pieces, AllocError> {
-    let prefix = of_markup(alloc, cite.prefix.as_str())?;
+    let words = cite.prefix.as_str().trim_end_matches(' ');
+    let prefix = of_markup(alloc, words)?;
     let mut out = if begins_note {
         with_capital(alloc, prefix)?
     } else {
         prefix
     };
-    if needs_space_behind(cite.prefix.as_str()) {
+    if words.len() < cite.prefix.len() || out.last_char().is_some_and(needs_space_behind) {
         out.push_str(alloc, " ")?;
     }
     out.push_pieces(pieces)?;
@@ -92,11 +93,8 @@ pub(crate) fn with_affixes(
     Ok(out)
 }
 
-fn needs_space_behind(prefix: &str) -> bool {
-    match prefix.chars().next_back() {
-        Some(last) => last.is_alphanumeric() || matches!(last, '.' | ',' | ';' | ':'),
-        None => false,
-    }
+fn needs_space_behind(last: char) -> bool {
+    last.is_alphanumeric() || matches!(last, '.' | ',' | ';' | ':' | '!' | '?')
 }
 
 fn needs_space_before(suffix: &str) -> bool {

@@ -182,7 +182,7 @@ fn locator_of(
     let Some(text) = text_at(alloc, object, "locator")? else {
         return Ok(None);
     };
-    let text = RichText::of_markup(alloc, text.as_str())?;
+    let text = RichText::of_markup(alloc, text.as_str().trim())?;
     if text.is_empty() {
         return Ok(None);
     }

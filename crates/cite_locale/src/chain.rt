@@ -1,5 +1,6 @@
 //! Chains of locales (CSL 1.0.2, Locale Fallback).
 use crate::indexed::IndexedLocale;
+use csl_texts::alphabets::{OwnLetter, own_letters};
 use csl_texts::cases::Language;
 use csl_texts::quotes::QuoteMarks;
 use csl_vocabulary::term::{PlainTerm, TermForm};
@@ -13,6 +14,7 @@ use style_file::locale::{LocaleDate, LocaleFile, StyleLocale};
 pub struct LocaleChain<'a> {
     pub(crate) locales: Vec<IndexedLocale<'a>>,
     language: Language,
+    own_letters: &'static [OwnLetter],
 }
 
 impl<'a> LocaleChain<'a> {
@@ -39,13 +41,21 @@ impl<'a> LocaleChain<'a> {
                 LocaleSource::File(tag) => push_file(alloc, &mut locales, files, tag)?,
             }
         }
-        let language = Language::of_tag(tag);
-        Ok(LocaleChain { locales, language })
+        Ok(LocaleChain {
+            locales,
+            language: Language::of_tag(tag),
+            own_letters: own_letters(tag),
+        })
     }
 
     /// The language of text cases.
     pub fn language(&self) -> Language {
         self.language
+    }
+
+    /// The letters that the language sorts behind others.
+    pub fn own_letters(&self) -> &'static [OwnLetter] {
+        self.own_letters
     }
 
     /// The date of this form, which is that of the first locale that has it.

@@ -121,14 +121,28 @@ impl Parts {
             return self.add(PartRole::Given, given.as_str());
         }
         if form < DisambiguatedNameForm::LongInitialized {
-            let whole = joined(self.alloc, particle, Some(family))?;
-            return self.add(PartRole::Family, whole.as_str());
+            return self.add_short(rules, particle, family);
         }
         if is_inverted {
             self.add_inverted(rules, person, family, given.as_str())
         } else {
             self.add_upright(person, family, given.as_str())
         }
+    }
+
+    /// Adds a short name. In a key of sorting a particle that is demoted stands behind it.
+    fn add_short(
+        &mut self,
+        rules: &NameRules<'_>,
+        particle: Option<&str>,
+        family: &str,
+    ) -> Result<(), AllocError> {
+        let whole = if rules.is_key && rules.demotes_particle {
+            joined(self.alloc, Some(family), particle)?
+        } else {
+            joined(self.alloc, particle, Some(family))?
+        };
+        self.add(PartRole::Family, whole.as_str())
     }
 
     /// Adds a name in the order in which it is spoken. The affixes of the family name stand around

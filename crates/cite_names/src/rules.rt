@@ -45,6 +45,8 @@ pub struct NameRules<'s> {
     pub has_hyphens: bool,
     /// Whether a non-dropping particle stands behind the given names of a name in sort order.
     pub demotes_particle: bool,
+    /// Whether the names are those of a key of sorting.
+    pub is_key: bool,
     pub given: Option<&'s NamePart>,
     pub family: Option<&'s NamePart>,
 }
@@ -71,6 +73,7 @@ impl<'s> NameRules<'s> {
             sort_separator: layers.sort_separator(),
             has_hyphens: down.options.initialize_with_hyphen,
             demotes_particle: down.options.particle_demotion == ParticleDemotion::DisplayAndSort,
+            is_key: false,
             given: name.and_then(|name| name.given.as_ref()),
             family: name.and_then(|name| name.family.as_ref()),
         };
@@ -89,6 +92,7 @@ impl<'s> NameRules<'s> {
             use_last: key.names_use_last.unwrap_or(self.use_last),
             sort_order: Some(NameAsSortOrder::All),
             demotes_particle: demotion != ParticleDemotion::Never,
+            is_key: true,
             ..self
         }
     }

@@ -10,6 +10,8 @@ pub struct LocatorPart<'t> {
     /// What stands between it and the part before it; empty for the first.
     pub before: &'t str,
     pub label: LocatorType,
+    /// Where its text begins in that of the locator.
+    pub start: usize,
     /// What it counts, without the label.
     pub text: &'t str,
 }
@@ -62,13 +64,16 @@ impl Parts<'_> {
         let whole = self.text.get(self.start..end).unwrap_or("");
         let text = whole.trim_end_matches(is_between);
         let between = whole.strip_prefix(text).unwrap_or("");
-        if text.trim_start().is_empty() {
+        let counted = text.trim_start();
+        if counted.is_empty() {
             return Ok(());
         }
+        let indent = text.len().saturating_sub(counted.len());
         self.parts.push(LocatorPart {
             before: self.before,
             label: self.label,
-            text: text.trim_start(),
+            start: self.start.saturating_add(indent),
+            text: counted,
         })?;
         self.before = between;
         Ok(())

@@ -21,9 +21,11 @@ fn is_count(variable: NumberVariable) -> bool {
     )
 }
 
-/// Whether a text is a number higher than 1.
+/// Whether a text begins with a number higher than 1.
 fn is_many(text: &str) -> bool {
-    match text.trim().parse::<u64>() {
+    let text = text.trim_start();
+    let behind = text.trim_start_matches(|c: char| c.is_ascii_digit());
+    match text.strip_suffix(behind).unwrap_or("").parse::<u64>() {
         Ok(number) => number > 1,
         Err(_) => false,
     }

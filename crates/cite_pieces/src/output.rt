@@ -154,6 +154,13 @@ impl<'s> Output<'s> {
         }
     }
 
+    /// Lets the innermost element be marked as nothing.
+    pub fn unmark(&mut self) {
+        if let Some(open) = self.open.last_mut() {
+            open.element.mark = None;
+        }
+    }
+
     /// Adds a text to the innermost element, without a delimiter.
     ///
     /// # Errors
@@ -242,7 +249,7 @@ pub fn written(
     }
     inside.push_pieces(content)?;
     if element.affixes == AffixPlace::Inside {
-        inside.push_str(alloc, element.suffix)?;
+        inside.push_suffix(alloc, element.suffix)?;
     }
     let set = set(alloc, element, inside)?;
     let Some(display) = element.display else {

@@ -29,6 +29,8 @@ pub enum Wrap {
 /// What a part of a stream was written for. A number tells parts apart, and is the caller's own.
 #[derive(Clone, Copy, PartialEq, Eq)]
 pub enum Mark {
+    /// All that a cite has of names, with their label, or what stands in for them.
+    Author(usize),
     /// The names of one or more variables.
     Names(usize),
     /// One name of a variable, and its place among them.

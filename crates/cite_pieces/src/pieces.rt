@@ -84,6 +84,44 @@ impl Pieces {
         self.push_text(String::from_str(alloc, text)?)
     }
 
+    /// Adds a copy of a text at the end: inside what `display` sets off, where the stream ends
+    /// with that.
+    ///
+    /// # Errors
+    ///
+    /// Where memory is refused; the stream stays as it is.
+    pub fn push_suffix(&mut self, alloc: Global, text: &str) -> Result<(), AllocError> {
+        match self.end_of_display(alloc)? {
+            Some(place) if !text.is_empty() && place <= self.pieces.len() => {
+                let text = String::from_str(alloc, text)?;
+                self.pieces.insert(place, Piece::Text(text))?;
+                Ok(())
+            }
+            _ => self.push_str(alloc, text),
+        }
+    }
+
+    /// Where what `display` sets off ends, if the stream ends with that.
+    fn end_of_display(&self, alloc: Global) -> Result<Option<usize>, AllocError> {
+        let mut are_displays = Vec::new(alloc);
+        let mut end = None;
+        for (place, piece) in self.pieces.iter().enumerate() {
+            match piece {
+                Piece::Text(_) => end = None,
+                Piece::Open(wrap) => {
+                    end = None;
+                    are_displays.push(matches!(wrap, Wrap::Display(_)))?;
+                }
+                Piece::Close => {
+                    if are_displays.pop() == Some(true) {
+                        end = Some(place);
+                    }
+                }
+            }
+        }
+        Ok(end)
+    }
+
     /// Adds the pieces of another stream.
     ///
     /// # Errors

@@ -170,7 +170,7 @@ impl<'s> Builder<'s> {
             return Ok(());
         };
         self.add_step(Step::OpenMacro(text))?;
-        self.put_off(Pending::Step(Step::CloseMacro))?;
+        self.put_off(Pending::Step(Step::CloseGroup))?;
         let macros = self.macros;
         match macros.get(index.0) {
             Some(called) => self.put_off(Pending::Elements(&called.elements, around)),

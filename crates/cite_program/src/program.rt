@@ -29,10 +29,10 @@ pub enum Step<'s> {
         names_at: usize,
     },
     OpenGroup(&'s Group),
-    CloseGroup,
-    /// The elements of a macro begin, which this text calls.
+    /// The elements of a macro begin, which this text calls. They are an implicit group.
     OpenMacro(&'s Text),
-    CloseMacro,
+    /// A group or a macro ends.
+    CloseGroup,
     /// A choice begins, which ends before `end`.
     Choose {
         end: usize,

@@ -1,8 +1,10 @@
-//! The order of texts: letters before accents before case, without regard to punctuation.
+//! The order of texts: letters, as the language has them in order, before accents before case,
+//! without regard to punctuation.
 use caseless::default_case_fold_str;
+use csl_texts::alphabets::{BEHIND, OwnLetter};
 use std::alloc::{AllocError, Global};
 use unicode_normalization::char::is_combining_mark;
-use unicode_normalization::{to_nfd, to_nfkd};
+use unicode_normalization::{to_nfc, to_nfd, to_nfkd};
 
 /// What stands between two parts of a key, before any letter.
 pub const SEPARATOR: char = '\u{1}';
@@ -17,20 +19,26 @@ pub struct CollationKey {
 }
 
 impl CollationKey {
-    /// The key of a text.
+    /// The key of a text, in a language with these letters of its own.
     ///
     /// # Errors
     ///
     /// Where memory is refused.
-    pub fn of_text(alloc: Global, text: &str) -> Result<CollationKey, AllocError> {
+    pub fn of_text(
+        alloc: Global,
+        text: &str,
+        own: &[OwnLetter],
+    ) -> Result<CollationKey, AllocError> {
         let mut key = CollationKey {
             letters: String::new(alloc),
             accents: String::new(alloc),
             case: String::new(alloc),
         };
         let decomposed = to_nfd(alloc, text)?;
-        let folded = default_case_fold_str(alloc, decomposed.as_str())?;
-        let folded = to_nfkd(alloc, folded.as_str())?;
+        let composed = to_nfc(alloc, text)?;
+        let folded = default_case_fold_str(alloc, composed.as_str())?;
+        let letters = with_own_letters(alloc, folded.as_str(), own)?;
+        let folded = to_nfkd(alloc, letters.as_str())?;
         for c in folded.as_str().chars() {
             key.push(c)?;
         }
@@ -44,7 +52,7 @@ impl CollationKey {
 
     /// Adds a character of a decomposed text in small letters.
     fn push(&mut self, c: char) -> Result<(), AllocError> {
-        if c == SEPARATOR {
+        if c == SEPARATOR || c == BEHIND {
             return self.letters.push(c);
         }
         if is_combining_mark(c) {
@@ -57,7 +65,7 @@ impl CollationKey {
             }
             return self.letters.push(' ');
         }
-        if !c.is_alphanumeric() {
+        if is_mark(c) || !c.is_alphanumeric() {
             return Ok(());
         }
         match plain_letters(c) {
@@ -71,6 +79,24 @@ impl CollationKey {
             }
         }
     }
+}
+
+/// A text in small letters, with a language's own letters as they are sorted.
+fn with_own_letters(alloc: Global, text: &str, own: &[OwnLetter]) -> Result<String, AllocError> {
+    let mut out = String::new(alloc);
+    for c in text.chars() {
+        match own.iter().find(|letter| letter.0 == c) {
+            Some(letter) => out.push_str(letter.1)?,
+            None => out.push(c)?,
+        }
+    }
+    Ok(out)
+}
+
+/// Whether a letter stands for a mark of a transliteration, as the prime or the okina, which is
+/// passed over as punctuation is.
+fn is_mark(c: char) -> bool {
+    matches!(c, '\u{2b9}'..='\u{2bf}')
 }
 
 /// The letters as which a letter is sorted that has no decomposition.

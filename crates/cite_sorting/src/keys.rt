@@ -1,5 +1,6 @@
 //! The values of keys.
 use crate::collation::{CollationKey, SEPARATOR};
+use cite_dates::sorting::sorted_date;
 use cite_locale::chain::LocaleChain;
 use cite_names::forms::{form_of, own_forms, written_names};
 use cite_names::parts::{may_be_inverted, parts_of};
@@ -7,12 +8,13 @@ use cite_names::rules::{HandedDown, NameRules};
 use cite_pieces::plain::plain_text;
 use cite_program::program::Program;
 use cite_walk::cite::{CiteFacts, Scene, SceneKind};
-use cite_walk::sorted::{sorted_date, sorted_number};
+use cite_walk::labels::label_of;
+use cite_walk::sorted::sorted_number;
 use cite_walk::walk::write_cite;
 use csl_base::names::DisambiguatedNameForm;
 use csl_references::name::Name;
 use csl_texts::quotes::QuoteMarks;
-use csl_vocabulary::variable::{NameVariable, Variable};
+use csl_vocabulary::variable::{NameVariable, TextVariable, Variable};
 use std::alloc::{AllocError, Global};
 use style_file::names::{InheritedNameOptions, NameForm};
 use style_file::sections::{SortBy, SortKey};
@@ -64,7 +66,8 @@ impl<'s> KeyScene<'s> {
         if text.as_str().trim().is_empty() {
             return Ok(None);
         }
-        Ok(Some(CollationKey::of_text(alloc, text.as_str())?))
+        let own = self.locale.own_letters();
+        Ok(Some(CollationKey::of_text(alloc, text.as_str(), own)?))
     }
 
     /// What a macro writes.
@@ -95,6 +98,9 @@ impl<'s> KeyScene<'s> {
         cite: CiteFacts<'_>,
     ) -> Result<String, AllocError> {
         match variable {
+            Variable::Text(TextVariable::CitationLabel) => {
+                label_of(alloc, cite.reference)?.plain(alloc)
+            }
             Variable::Text(variable) => match cite.text(variable, false) {
                 Some(text) => text.plain(alloc),
                 None => Ok(String::new(alloc)),

@@ -148,7 +148,9 @@ impl Builder<'_> {
             Mark::CitationNumber => ElemMeta::CitationNumber,
             Mark::CitationLabel => ElemMeta::CitationLabel,
             Mark::Entry(place) => ElemMeta::Entry(place),
-            Mark::YearSuffix | Mark::Locator | Mark::Other(_) => return Ok(None),
+            Mark::Author(_) | Mark::YearSuffix | Mark::Locator | Mark::Other(_) => {
+                return Ok(None);
+            }
         };
         Ok(Some(meta))
     }

@@ -2,7 +2,7 @@
 use crate::cite::{CiteFacts, Repetition, SceneKind};
 use crate::walk::Walk;
 use csl_texts::numbers::is_numeric;
-use csl_vocabulary::variable::{DateVariable, NumberVariable, Variable};
+use csl_vocabulary::variable::{DateVariable, Variable};
 use std::alloc::AllocError;
 use style_file::choose::{Branch, CitePosition, Match, Test};
 
@@ -47,11 +47,7 @@ impl Walk<'_, '_> {
     fn is_numeric(&self, variable: Variable) -> Result<bool, AllocError> {
         let alloc = self.alloc();
         let plain = match variable {
-            Variable::Number(NumberVariable::Locator) => match self.cite.locator {
-                Some(locator) => locator.text.plain(alloc)?,
-                None => return Ok(false),
-            },
-            Variable::Number(variable) => match self.cite.number(alloc, variable)? {
+            Variable::Number(variable) => match self.number_value(variable)? {
                 Some(value) => value.text().plain(alloc)?,
                 None => return Ok(false),
             },

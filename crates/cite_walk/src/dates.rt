@@ -1,8 +1,8 @@
 //! Dates (CSL 1.0.2, "Date").
 use crate::cite::SceneKind;
-use crate::sorted::sorted_date;
 use crate::walk::Walk;
 use cite_dates::layout::{Unit, layout_of};
+use cite_dates::sorting::sorted_date;
 use cite_dates::write::{DateOptions, push_date};
 use cite_pieces::output::Element;
 use cite_pieces::piece::Mark;
@@ -60,7 +60,7 @@ impl<'s> Walk<'s, '_> {
             .parts
             .iter()
             .any(|part| part.form.unit() == Unit::Year);
-        let suffix = if has_year || value.span.is_none() {
+        let suffix = if has_year || value.literal.is_some() {
             self.take_implicit_suffix()?
         } else {
             None
@@ -69,11 +69,7 @@ impl<'s> Walk<'s, '_> {
             mark: Some(mark),
             year_suffix: suffix.as_deref(),
         };
-        push_date(&mut self.output, locale, element, value, options)?;
-        match &suffix {
-            Some(letters) if value.span.is_none() => self.output.push_str(letters.as_str()),
-            _ => Ok(()),
-        }
+        push_date(&mut self.output, locale, element, value, options)
     }
 
     /// Writes a date as it is sorted, with the parts that its element asks for.

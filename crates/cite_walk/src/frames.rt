@@ -9,6 +9,8 @@ pub(crate) struct Frame {
     pub has_value: bool,
     /// How many variables had been used before.
     pub used_before: usize,
+    /// How many names had been written before.
+    pub names_before: usize,
 }
 
 impl Frame {
@@ -16,6 +18,7 @@ impl Frame {
         has_called: false,
         has_value: false,
         used_before: 0,
+        names_before: 0,
     };
 
     /// Whether all that was called is empty.

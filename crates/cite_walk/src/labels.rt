@@ -13,7 +13,7 @@ use std::alloc::{AllocError, Global};
 /// # Errors
 ///
 /// Where memory is refused.
-pub(crate) fn label_of(alloc: Global, reference: &Reference) -> Result<RichText, AllocError> {
+pub fn label_of(alloc: Global, reference: &Reference) -> Result<RichText, AllocError> {
     if let Some(label) = reference.text(TextVariable::CitationLabel) {
         return label.clone();
     }
@@ -23,7 +23,8 @@ pub(crate) fn label_of(alloc: Global, reference: &Reference) -> Result<RichText,
     plain_value(alloc, label.as_str())
 }
 
-/// The names by which an item is cited.
+/// The names by which an item is cited: those of its authors, editors or translators, or else the
+/// first that it has.
 fn names_of(reference: &Reference) -> &[Name] {
     let roles = [
         NameVariable::Author,
@@ -35,7 +36,10 @@ fn names_of(reference: &Reference) -> &[Name] {
             return names;
         }
     }
-    &[]
+    match reference.names.first() {
+        Some((_, names)) => names,
+        None => &[],
+    }
 }
 
 fn push_names(label: &mut String, names: &[Name]) -> Result<(), AllocError> {

@@ -5,7 +5,7 @@ pub mod cite;
 mod conditions;
 mod dates;
 mod frames;
-mod labels;
+pub mod labels;
 mod locators;
 mod names;
 mod numbers;

@@ -17,7 +17,8 @@ pub(crate) struct ShownLocator {
     pub counted: String,
 }
 
-/// A locator as it is written. Where its text begins with a label, that is its kind.
+/// A locator as it is written. Where its text begins with a label, that is its kind; but one that
+/// is an entry of a dictionary has no label in its text.
 ///
 /// # Errors
 ///
@@ -29,7 +30,10 @@ pub(crate) fn shown_locator(
 ) -> Result<ShownLocator, AllocError> {
     let plain = locator.text.plain(alloc)?;
     let whole = plain.as_str().trim();
-    let parts = locator_parts(alloc, locale, whole, locator.kind)?;
+    let parts = match locator.kind {
+        LocatorType::SubVerbo => Vec::new(alloc),
+        kind => locator_parts(alloc, locale, whole, kind)?,
+    };
     let Some(first) = parts.first() else {
         return Ok(ShownLocator {
             kind: locator.kind,
@@ -38,8 +42,8 @@ pub(crate) fn shown_locator(
         });
     };
     let counted = String::from_str(alloc, first.text)?;
-    let text = match whole.find(first.text) {
-        Some(place) if place > 0 => plain_value(alloc, whole.get(place..).unwrap_or(whole))?,
+    let text = match whole.get(first.start..) {
+        Some(behind) if first.start > 0 => plain_value(alloc, behind)?,
         _ => locator.text.clone()?,
     };
     Ok(ShownLocator {

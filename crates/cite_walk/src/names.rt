@@ -27,20 +27,27 @@ struct Block<'c> {
 }
 
 impl<'s, 'c> Walk<'s, 'c> {
-    /// Writes names. Tells whether there are some, or they are left out.
-    pub(crate) fn write_names(&mut self, names: &NamesInUse<'s>) -> Result<bool, AllocError> {
-        if self.leaves_out_names {
+    /// Writes names. Tells whether there are some, or they are left out. Those are left out that
+    /// are there, or that something may stand in for.
+    pub(crate) fn write_names(
+        &mut self,
+        names: &NamesInUse<'s>,
+        has_substitute: bool,
+    ) -> Result<bool, AllocError> {
+        let blocks = self.blocks_of(names)?;
+        if self.leaves_out_names && (has_substitute || !blocks.is_empty()) {
             self.leaves_out_names = false;
             self.call(false);
             return Ok(true);
         }
-        let blocks = self.blocks_of(names)?;
         if blocks.is_empty() || self.cite.is_cut_to_suffix {
             self.call(false);
             return Ok(false);
         }
-        for block in &blocks {
-            self.use_variable(Variable::Name(block.variable))?;
+        for variable in names.variables {
+            if self.cite.has(Variable::Name(*variable)) {
+                self.use_variable(Variable::Name(*variable))?;
+            }
         }
         let rules = NameRules::of_name(names.name, self.handed_down());
         if rules.form == NameForm::Count {
@@ -99,7 +106,7 @@ impl<'s, 'c> Walk<'s, 'c> {
         self.scene
             .locale
             .plain_term(term, TermForm::Long, false)
-            .is_some()
+            .is_some_and(|words| !words.is_empty())
     }
 
     fn handed_down(&self) -> HandedDown<'s> {
@@ -116,7 +123,7 @@ impl<'s, 'c> Walk<'s, 'c> {
         }
     }
 
-    /// Writes the number of names that would be written.
+    /// Writes the number of names that would be written; in a key of sorting, behind zeros.
     fn write_count(
         &mut self,
         names: &NamesInUse<'s>,
@@ -129,7 +136,10 @@ impl<'s, 'c> Walk<'s, 'c> {
             let forms = own_forms(alloc, rules, block.names.len())?;
             count = count.saturating_add(written_names(forms.as_slice()));
         }
-        let digits = format!(in alloc; "{count}")?;
+        let digits = match self.scene.kind {
+            SceneKind::Key(_) => format!(in alloc; "{count:010}")?,
+            SceneKind::Cite | SceneKind::Item => format!(in alloc; "{count}")?,
+        };
         let element = self.names_element(names);
         self.output.open(element)?;
         self.output.push_str(digits.as_str())?;
@@ -269,6 +279,7 @@ impl<'s, 'c> Walk<'s, 'c> {
         Element {
             delimiter: names.delimiter.or(handed_down).unwrap_or(""),
             display: names.display,
+            mark: self.author_mark(),
             ..element_with(names.affixes, names.formatting)
         }
     }

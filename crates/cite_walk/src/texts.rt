@@ -71,9 +71,9 @@ impl<'s> Walk<'s, '_> {
         Ok(())
     }
 
-    /// Writes the words for no date, which stand for a date.
+    /// Writes the words for no date. To the driver they are a date, behind which the suffix of the
+    /// year stands; as a term they aren't a variable.
     fn write_no_date(&mut self, text: &'s Text, words: &str) -> Result<(), AllocError> {
-        self.call(true);
         let mark = Mark::Date(self.dates);
         self.dates = self.dates.saturating_add(1);
         self.output.open(Element {
@@ -149,6 +149,7 @@ impl<'s> Walk<'s, '_> {
         let Some(letters) = self.take_implicit_suffix()? else {
             return Ok(());
         };
+        self.call(true);
         self.output.open(Element {
             mark: Some(Mark::YearSuffix),
             ..Element::PLAIN
@@ -244,7 +245,7 @@ impl<'s> Walk<'s, '_> {
         let format = match variable {
             NumberVariable::Page => self.scene.style.options.page_range_format,
             NumberVariable::Locator => self.locator_range_format(),
-            _ if is_numeric(plain.as_str()) => None,
+            _ if is_numeric(plain.as_str()) || plain.as_str().contains("\\-") => None,
             _ => return self.output.push_rich(value.text()),
         };
         let delimiter = self.scene.locale.page_range_delimiter();

@@ -105,7 +105,7 @@ fn first_page(alloc: Global, pages: &RichText) -> Result<String, AllocError> {
     let plain = pages.plain(alloc)?;
     let text = plain.as_str().trim();
     let first = text
-        .split(|c| matches!(c, '-' | '–' | ',' | '&' | ' '))
+        .split(|c| matches!(c, '-' | '–' | ',' | ';' | '&' | ' '))
         .next()
         .unwrap_or(text);
     String::from_str(alloc, first)

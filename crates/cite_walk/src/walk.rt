@@ -142,7 +142,8 @@ impl<'s, 'c> Walk<'s, 'c> {
                 let Some(in_use) = self.scene.program.names.get(names).copied() else {
                     return Ok(());
                 };
-                if self.write_names(&in_use)? {
+                let has_substitute = end > self.next;
+                if self.write_names(&in_use, has_substitute)? {
                     self.next = end;
                 }
                 Ok(())
@@ -150,9 +151,8 @@ impl<'s, 'c> Walk<'s, 'c> {
             Step::OpenSubstitute => self.open_substitute(),
             Step::CloseSubstitute { names_at } => self.close_substitute(names_at),
             Step::OpenGroup(group) => self.open(group_element(group)),
-            Step::CloseGroup => self.close_group(),
             Step::OpenMacro(text) => self.open(text_element(text)),
-            Step::CloseMacro => self.close_macro(),
+            Step::CloseGroup => self.close_group(),
             Step::Choose { .. } => Ok(()),
             Step::Test { branch, otherwise } => {
                 if !self.holds(branch)? {
@@ -187,6 +187,7 @@ impl<'s, 'c> Walk<'s, 'c> {
     fn open(&mut self, element: Element<'s>) -> Result<(), AllocError> {
         self.frames.push(Frame {
             used_before: self.used.len(),
+            names_before: self.names.len(),
             ..Frame::NEW
         })?;
         self.output.open(element)
@@ -220,7 +221,7 @@ impl<'s, 'c> Walk<'s, 'c> {
         self.suppressed.contains(&variable)
     }
 
-    /// Closes a group. One that has text counts as a variable with a value.
+    /// Closes a group or a macro. One that has text counts as a variable with a value.
     fn close_group(&mut self) -> Result<(), AllocError> {
         let frame = self.frames.pop().unwrap_or(Frame::NEW);
         if frame.is_in_vain() {
@@ -232,24 +233,16 @@ impl<'s, 'c> Walk<'s, 'c> {
         Ok(())
     }
 
-    /// Closes a macro. One that has called variables and has text counts as a variable with a
-    /// value.
-    fn close_macro(&mut self) -> Result<(), AllocError> {
-        let mut frame = self.frames.pop().unwrap_or(Frame::NEW);
-        if self.output.close()? && frame.has_called {
-            frame.has_value = true;
-        }
-        self.add(frame);
-        Ok(())
-    }
-
     /// Opens an element that may stand in for names. In an item it counts as a name of nobody, and
     /// is replaced where it repeats.
     fn open_substitute(&mut self) -> Result<(), AllocError> {
         let inside = self.scene.program.steps.get(self.here.saturating_add(1));
         let is_names = matches!(inside, Some(Step::Names { .. }));
         if is_names || !matches!(self.scene.kind, SceneKind::Item) {
-            self.open(Element::PLAIN)?;
+            self.open(Element {
+                mark: if is_names { None } else { self.author_mark() },
+                ..Element::PLAIN
+            })?;
             return self.output.open(Element::PLAIN);
         }
         let alloc = self.alloc();
@@ -260,13 +253,22 @@ impl<'s, 'c> Walk<'s, 'c> {
             .open(marked(Mark::Name(NameVariable::Author, 0)))
     }
 
+    /// What marks, in a cite, all that is written for names, or that stands in for them.
+    pub(crate) fn author_mark(&self) -> Option<Mark> {
+        match self.scene.kind {
+            SceneKind::Cite => Some(Mark::Author(self.here)),
+            SceneKind::Item | SceneKind::Key(_) => None,
+        }
+    }
+
     /// Closes an element that may stand in for names. Where it has text, its variables are written
     /// nowhere else, and the elements behind it don't stand in.
     fn close_substitute(&mut self, names_at: usize) -> Result<(), AllocError> {
         let frame = self.frames.pop().unwrap_or(Frame::NEW);
         self.add(frame);
-        self.output.close()?;
-        if !self.output.close()? {
+        let has_names = self.names.len() > frame.names_before;
+        self.close_marked(has_names)?;
+        if !self.close_marked(has_names)? {
             return Ok(());
         }
         for variable in self.used.iter().skip(frame.used_before) {
@@ -275,6 +277,14 @@ impl<'s, 'c> Walk<'s, 'c> {
         self.call(true);
         self.next = self.scene.program.end_of(names_at);
         Ok(())
+    }
+
+    /// Closes an element that may stand in for names. Where it has names, these alone are marked.
+    fn close_marked(&mut self, has_names: bool) -> Result<bool, AllocError> {
+        if has_names {
+            self.output.unmark();
+        }
+        self.output.close()
     }
 }
 

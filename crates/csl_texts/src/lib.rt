@@ -1,6 +1,7 @@
 //! Texts as a writer of citations makes them: cases, page ranges, numbers, initials of names.
 #![tactic(auto)]
 
+pub mod alphabets;
 pub mod cases;
 pub mod initials;
 pub mod numbers;

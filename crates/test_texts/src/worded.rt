@@ -1,6 +1,6 @@
 //! Functions over the words of locales: terms, ordinals, numbers, locators and dates.
 use crate::locales::{PLAIN, affixes, files, part};
-use cite_dates::sorting::sort_text;
+use cite_dates::sorting::sorted_date;
 use cite_dates::write::{DateOptions, push_date};
 use cite_locale::chain::LocaleChain;
 use cite_numbers::forms::{number_text, pages};
@@ -161,10 +161,7 @@ pub fn sorted(alloc: Global, args: &[&str]) -> Result<Option<String>, AllocError
         return Ok(None);
     };
     let reading = Date::of_text(alloc, *text)?;
-    match &reading.date.span {
-        Some(span) => Ok(Some(sort_text(alloc, span)?)),
-        None => Ok(None),
-    }
+    Ok(Some(sorted_date(alloc, &reading.date, 3)?))
 }
 
 /// A date: `text` or `numeric` and its parts, as `text:year-month`; or parts apart by `|`, each a
