@@ -174,8 +174,8 @@ def say_names(element, depth, lines):
     if et_al is not None:
         lines.add(depth + 1, 'et-al', values(et_al, ['term=et-al']) + appearance(et_al))
     if label is not None:
-        behind = [tag(it) for it in element]
-        is_before = name is not None and behind.index('label') < behind.index('name')
+        inside = [tag(it) for it in element]
+        is_before = name is None or inside.index('label') < inside.index('name')
         lines.add(depth + 1, 'label', [' side=' + ('before' if is_before else 'behind')] + values(label, LABEL) + appearance(label))
     for substitute in children(element, 'substitute'):
         say_elements(substitute, depth + 1, lines)
