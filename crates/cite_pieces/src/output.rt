@@ -31,6 +31,8 @@ pub struct Element<'s> {
     pub has_quotes: bool,
     pub display: Option<Display>,
     pub text_case: Option<TextCase>,
+    /// The language of the text case, where it isn't that of all that is written.
+    pub language: Option<Language>,
     /// Whether its content loses its periods (strip-periods).
     pub strips_periods: bool,
     /// What its content is marked as.
@@ -48,6 +50,7 @@ impl Element<'_> {
         has_quotes: false,
         display: None,
         text_case: None,
+        language: None,
         strips_periods: false,
         mark: None,
     };
@@ -296,7 +299,7 @@ fn changed(
     language: Language,
 ) -> Result<Pieces, AllocError> {
     let content = match element.text_case {
-        Some(case) => in_case(alloc, content, case, language)?,
+        Some(case) => in_case(alloc, content, case, element.language.unwrap_or(language))?,
         None => content,
     };
     if element.strips_periods {
