@@ -11,17 +11,16 @@ which the account is printed, or why there is none; where there is a NAME.alone,
 written without a driver; where there is a NAME.equality, it is told which requests are equal to the
 first, and whether that for the bibliography is one for its style alone. A copy of each answer has
 to be equal to it. It tells where each document that is refused is wrong, which faults.txt has for
-most of them, and nothing of the others. crates/test_tables, which is looked for likewise, answers
-each document that has an answer once more from a table of what its styles write; with any one thing
-taken out exactly that has to be missing, and a table that is empty at first has to be filled in at
-most three calls more than rounds mark. Where there is a NAME.context, crates/test_contexts prints
-what calls of a writing context give in the document's first style, and where there is a NAME.cites,
-what calls that render its entries give. crates/test_rows, which has cases that no document can
-express, has to say of each that it is as it should be. It refuses each growth of memory in turn
-(refuse.c, for which a C compiler must be there), in all of these programs but the last; each such
-sweep is for some calls, and fails where one of them met no refusal. Without the library jsonschema
-the documents aren't held to the schema: a line says so, and where the environment has CI set, it
-fails.
+most of them, and nothing of the others. It answers each document that has an answer once more from
+a table of what its styles write; with any one thing taken out exactly that has to be missing, and a
+table that is empty at first has to be filled in at most three calls more than rounds mark. Where
+there is a NAME.context, it prints what calls of a writing context give in the document's first
+style, and where there is a NAME.cites, what calls that render its entries give. crates/test_rows,
+which has cases that no document can express, has to say of each that it is as it should be. It
+refuses each growth of memory in turn (refuse.c, for which a C compiler must be there), in all of
+these programs but the last; each such sweep is for some calls, and fails where one of them met no
+refusal. Without the library jsonschema the documents aren't held to the schema: a line says so, and
+where the environment has CI set, it fails.
 run.py PROGRAM FOLDER..: runs it on the documents of these folders, and does nothing else.
 
 A document is NAME.json. NAME.txt is what it must print; where the status isn't 0, NAME.status has
@@ -228,18 +227,18 @@ def tests_of_calls(calls, bases):
     return [*made, ('standalone: ' + name_of(ring), by_calls, calls, 'standalone_citation', ring, 3, b'')]
 
 
-def tests_of_tables(tables, bases):
-    """What crates/test_tables is to do with the documents that have an answer."""
+def tests_of_tables(calls, bases):
+    """What crates/test_calls is to do from a table with the documents that have an answer."""
     # (what is written is kept under the name of a style, and those of equality/ have equal styles of several names)
     named = [it for it in bases if wanted(it)[0] == 0 and os.path.dirname(it) != HERE + '/equality']
-    return [('table: ' + name_of(it), by_calls, tables, 'table', it, 0, wanted(it)[1]) for it in named]
+    return [('table: ' + name_of(it), by_calls, calls, 'table', it, 0, wanted(it)[1]) for it in named]
 
 
-def tests_of_contexts(contexts, bases):
-    """What crates/test_contexts is to do with the documents that tell what calls of a writing
-    context give, or calls that render."""
+def tests_of_contexts(calls, bases):
+    """What crates/test_calls is to do with the documents that tell what calls of a writing context
+    give, or calls that render."""
     asked = [(way, it) for way in ('context', 'cites') for it in bases if os.path.isfile(it + '.' + way)]
-    return [('%s: %s' % (way, name_of(it)), by_calls, contexts, way, it, 0, read(it + '.' + way)) for way, it in asked]
+    return [('%s: %s' % (way, name_of(it)), by_calls, calls, way, it, 0, read(it + '.' + way)) for way, it in asked]
 
 
 # What crates/test_rows says of a case, and its cases, in the order in which it runs them.
@@ -783,7 +782,7 @@ def sweep_of_free(shim, program, given):
 
 
 def sweeps_of_contexts(shim, program):
-    """Those of crates/test_contexts."""
+    """Those of the calls of a writing context, and of calls that render."""
     context, cites = HERE + '/words/calls_of_a_context', HERE + '/purposes/calls_of_a_style'
     asked = [('context', ['context'], context, read(context + '.context')), ('heights', HEIGHTS, context, b''), ('cites', RENDERING, cites, read(cites + '.cites'))]
     return [('growths of ' + way, sweep_of_calls, shim, program, way, swept, read(base + '.json'), 0, printed) for way, swept, base, printed in asked]
@@ -821,20 +820,20 @@ def sweeps_of_calls(shim, program):
 
 
 def sweeps_of_tables(shim, program):
-    """Those of crates/test_tables."""
+    """Those of answers from a table."""
     given = {it: read(HERE + '/' + it + '.json') for it in SWEPT_TABLES}
     ways = [('drive 1', ['finish_with', 'drive']), ('fill 1', ['finish_with', 'answer_by'])]
     return [('growths of %s: %s' % (way, it), sweep_of_calls, shim, program, way, swept, given[it], 0, b'')
             for way, swept in ways for it in SWEPT_TABLES]
 
 
-def sweeps(program, calls, tables, contexts):
+def sweeps(program, calls):
     """The sweeps of the programs that are built, each with its name."""
     shim = compiled(tempfile.mkdtemp())
     made = [('growths of %s' % it, sweep_of_program, shim, program, it) for it in SWEPT]
-    made += sweeps_of_calls(shim, calls) if calls else []
-    made += sweeps_of_tables(shim, tables) if tables else []
-    return made + (sweeps_of_contexts(shim, contexts) if contexts else [])
+    for sweeps_of in (sweeps_of_calls, sweeps_of_tables, sweeps_of_contexts) if calls else ():
+        made += sweeps_of(shim, calls)
+    return made
 
 
 def model(program, *mode):
@@ -915,25 +914,17 @@ def main():
     tests = [('model: %d random documents' % RANDOM_DOCUMENTS, model, program)]
     tests.append(('model: %d random documents of the mode csl' % RANDOM_DOCUMENTS, model, program, 'csl'))
     tests += [('process: ' + it.__name__.replace('_', ' '), it, program) for it in reversed(PROCESSES)]
-    calls, tables, contexts, rows = (beside(program, it) for it in ('test_calls', 'test_tables', 'test_contexts', 'test_rows'))
+    calls, rows = (beside(program, it) for it in ('test_calls', 'test_rows'))
     try:
-        tests += sweeps(program, calls, tables, contexts)
+        tests += sweeps(program, calls)
     except Failed as error:
         tests.append(('growths of memory', cannot, str(error)))
     if calls:
-        tests += tests_of_calls(calls, bases)
-        tests += faults(calls, bases)
+        for tests_of in (tests_of_calls, tests_of_tables, tests_of_contexts, faults):
+            tests += tests_of(calls, bases)
         tests += [('process: ' + it.__name__.replace('_', ' '), it, calls) for it in (failing_writer, slow_reader, most_reads)]
     else:
         tests.append(('program of calls', cannot, 'crates/test_calls is not built'))
-    if tables:
-        tests += tests_of_tables(tables, bases)
-    else:
-        tests.append(('program of tables', cannot, 'crates/test_tables is not built'))
-    if contexts:
-        tests += tests_of_contexts(contexts, bases)
-    else:
-        tests.append(('program of contexts', cannot, 'crates/test_contexts is not built'))
     tests += tests_of_cases(rows) if rows else [('program of cases', cannot, 'crates/test_rows is not built')]
     tests += [(name_of(it), document, program, it) for it in bases]
     tests += [('model: ' + name_of(it), worked, it) for it in [*folders_of(HERE), ROOT + '/examples']]
