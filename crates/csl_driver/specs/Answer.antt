@@ -17,7 +17,8 @@ use Rattle.csl_round_laws.specs.Tables.{disambiguated}
 use Rattle.csl_round_laws.specs.declared.mode.RoundMode.{RoundMode}
 use Rattle.csl_writers.specs.Writing.{Writing}
 
--- what a driver is asked: the bibliography, the requests, and the number of the first entry
+-- what a driver is asked: what is wanted of the bibliography, the requests, and the offset, which
+-- is the number of the first entry
 pub record Job (E P : Type 0) : Type 0 where
   pub wanted : Wanted E
   pub requests : List (Request E P)
@@ -41,7 +42,7 @@ module _ {E P : Type 0} (eq : E → E → Bool) where
       else distinct eq (cited_finally cites)
 
 module _ {E P : Type 0} (writing : Writing E P) where
-  -- the answer to the r-th request, from its cites as they stand in the end
+  -- the answer to the r-th request, from its collapsed cites
   abbrev pub citation_of : ℕ → CiteRender E P → RenderedCitation
   citation_of r c =
       record { note_number = c.request.note_number; citation = citation_tree writing r c }

@@ -3,7 +3,7 @@ use Rattle.std.specs.Prelude.{ℕ, Bool, false, List, [], Option, Some, map, opt
 use Rattle.std.specs.List.{enumerate_from, filter_map}
 use Rattle.csl_arranging.specs.Arranged.{arranged_cites}
 use Rattle.csl_arranging.specs.Order.{final_request}
-use Rattle.csl_arranging.specs.Requests.{Request as Arranged}
+use Rattle.csl_arranging.specs.Requests.{Request as PlainRequest}
 use Rattle.csl_arranging.specs.declared.request.FinalCite.{FinalCite}
 use Rattle.csl_assembly.specs.ByMeans.{bibliography_by_means}
 use Rattle.csl_assembly.specs.WithoutEmpty.{citation_without_empty}
@@ -39,7 +39,8 @@ use Rattle.csl_driver.specs.Answer.{Job, entries_listed, numbered_finally, used_
 abbrev pub same_locator : {P : Type 0} → (P → P → Bool) → LocatorValue P → LocatorValue P → Bool
 same_locator payload_eq a b = same_locators payload_eq (Some a) (Some b)
 
--- the means of an item, by the index of its entry: the choice of its later mention, and its suffix
+-- the means of an item, by the index of its entry in the order of the bibliography: the choice of
+-- its later mention, and its suffix
 abbrev pub item_means : List MentionState → List (Option ℕ) → ℕ → ItemMeans
 item_means states suffixes k = record {
   choose = (unwrap_or (slice_get states (mention_index k false)) untold).chosen;
@@ -79,9 +80,9 @@ module _ {E P : Type 0} (eq : E → E → Bool) (job : Job E P) where
   abbrev pub mentions : List (Subject (CiteTaskValue E P))
   mentions = mentions_of eq job.offset listed job.requests
 
-  -- the requests, their cites in the final order, where this is known of mentions and suffixes
+  -- the requests, their cites in the final order, from what is known of mentions and the suffixes
   abbrev pub ordered_by : List ToldMention → List (Option ℕ)
-      → List (Arranged (FinalCite (LocatorValue P)))
+      → List (PlainRequest (FinalCite (LocatorValue P)))
   ordered_by told suffixes =
       map final_request (plain_requests told suffixes eq listed job.requests cite_notes)
 
@@ -120,7 +121,7 @@ module _ {E P : Type 0} (eq : E → E → Bool) (job : Job E P) where
     }
 
     -- the requests, their cites in the final order
-    abbrev pub ordered : List (Arranged (FinalCite (LocatorValue P)))
+    abbrev pub ordered : List (PlainRequest (FinalCite (LocatorValue P)))
     ordered = ordered_by shown_mentions entry_suffixes
 
     -- and these cites, of which nothing is written yet

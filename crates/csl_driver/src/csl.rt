@@ -65,8 +65,8 @@ impl<'d, 'o, 'a, T: EntryLike, P: Eq + Drop> Draft<'d, 'o, 'a, T, P> {
         Ok((rendered, account))
     }
 
-    /// What tells the mentions of all entries apart, as this writer writes them. The notes are
-    /// those of the requests' cites.
+    /// What tells the mentions of all entries apart, as this writer writes them. The notes say of
+    /// each cite of each request in which note its entry is cited first, and whether it is near.
     fn told_apart<W: CiteWriter<T, P>>(
         self,
         alloc: Global,

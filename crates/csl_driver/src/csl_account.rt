@@ -13,8 +13,8 @@ use csl_tables::tables::Told;
 use csl_writers::counter::Renders;
 use std::alloc::{AllocError, Global};
 
-/// The account of an answer in which works are told apart as CSL 1.0.2 has it. The lists have an
-/// entry each at the same places.
+/// The account of an answer in which works are told apart as CSL 1.0.2 has it. All lists are
+/// equally long, and have what belongs to one entry at the same index.
 #[derive(Drop)]
 pub struct CslAccount<'a, T> {
     /// The renderings that were made; the greatest `u128` where there were more.

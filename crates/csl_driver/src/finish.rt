@@ -55,17 +55,17 @@ impl<'a, T: EntryLike, P: Eq + Drop> BibliographyDriver<'a, T, P> {
     /// Cites that read alike are disambiguated, cites of one author are grouped, and ranges of
     /// numbers and years are collapsed, as their styles ask for (CSL 1.0.2, disambiguation, cite
     /// grouping, cite collapsing). Positions are those of the final order. Numbers begin at the
-    /// offset; they go by the bibliography where an order is handed in and the style has one, else
-    /// by the first cites in their final order. Each cite is written for its purpose, by its
-    /// locator; a cite of the year alone is its date text. The entries of the bibliography are those
-    /// of the handed order that are cited, and then all others that are cited, with repeated authors
-    /// substituted and first fields apart where its style asks for it.
+    /// offset; they go by the bibliography where an order is handed in and the style has a
+    /// bibliography, else by the first cites in their final order. Each cite is written for its
+    /// purpose, by its locator; a cite of the year alone is its date text. The entries of the
+    /// bibliography are those of the handed order that are cited, and then all others that are
+    /// cited, with repeated authors substituted and first fields apart where its style asks for it.
     ///
     /// # Errors
     /// `MacroRing` only where a style has macros that call each other in a ring;
     /// `NumberOverflow` only where none has, and the offset and the number of distinct entries
-    /// together are above `usize::MAX`; neither is ever answered. `OutOfMemory` where memory runs
-    /// out, at any point.
+    /// together are above `usize::MAX`; in both cases there is never an answer. `OutOfMemory` where
+    /// memory runs out, at any point.
     pub fn finish(self, request: BibliographyRequest<'_, 'a, T>) -> Result<Rendered, DriverError>
         ensures { Finishes
             (λ r. r ≡ rendered T.eq P.eq (layout_writing T.answers) RoundMode.Three
@@ -144,8 +144,8 @@ impl<'a, T: EntryLike, P: Eq + Drop> BibliographyDriver<'a, T, P> {
         self.answer_with(&request, mode, writer)
     }
 
-    /// Answers all requests in this mode, as this writer writes: rings are refused, the entries that
-    /// are cited are listed, and what is then known is finished.
+    /// Answers all requests, as `finish_with` does, and leaves the driver and the request as they
+    /// are, for another call.
     ///
     /// # Errors
     /// Those of `finish_with`.
@@ -182,8 +182,8 @@ impl<'a, T: EntryLike, P: Eq + Drop> BibliographyDriver<'a, T, P> {
 
 impl<'d, 'o, 'a, T: EntryLike, P: Eq + Drop> Draft<'d, 'o, 'a, T, P> {
     /// The answer, and its account. The cites are rendered a first time, disambiguated and grouped,
-    /// and their entries numbered in their final order; then the bibliography is written, and from
-    /// the collapsed cites the citations.
+    /// which is their final order, and get the numbers of the end; then the bibliography is
+    /// written, and from the collapsed cites the citations.
     pub(crate) fn finish<W: CiteWriter<T, P>>(
         self,
         alloc: Global,
@@ -210,6 +210,7 @@ impl<'d, 'o, 'a, T: EntryLike, P: Eq + Drop> Draft<'d, 'o, 'a, T, P> {
         collapse_all(cites);
         let citations = self.citations(alloc, cites, writer, &mut counter)?;
         let account = self.account(alloc, rounds, numbers, &counter)?;
+        // a law: the contract speaks of it, and nothing is done
         answers_keep_laws::<T, P>();
         let rendered = Rendered {
             citations: Seq::new(citations),
@@ -266,7 +267,7 @@ impl<'d, 'o, 'a, T: EntryLike, P: Eq + Drop> Draft<'d, 'o, 'a, T, P> {
         }
     }
 
-    /// The citation of each request, from its cites as they stand in the end.
+    /// The citation of each request, from its collapsed cites.
     fn citations<W: CiteWriter<T, P>>(
         self,
         alloc: Global,

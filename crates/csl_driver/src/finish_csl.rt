@@ -30,10 +30,10 @@ impl<'a, T: EntryLike, P: Eq + Drop> BibliographyDriver<'a, T, P> {
     /// whose later mentions still read alike get year suffixes, in the order of the bibliography.
     /// Each of the three is tried once, and every cite reads by what tells its mention apart.
     ///
-    /// Cites whose names are shown alike are grouped; years, suffixes and numbers are collapsed, but
-    /// not in a request with a purpose (CSL 1.0.2, cite grouping, cite collapsing). A cite that is
-    /// written as nothing isn't shown. Items of the bibliography are written without the names that
-    /// disambiguation adds; in these, authors that repeat are substituted.
+    /// Cites whose names are shown alike are grouped; years, suffixes and numbers are collapsed,
+    /// but not in a request with a purpose (CSL 1.0.2, cite grouping, cite collapsing). A cite that
+    /// is written as nothing isn't shown. Items of the bibliography are written without the names
+    /// that disambiguation adds, and repeated authors are substituted in them.
     ///
     /// The renderings are two for each distinct entry; one for each mention that got other names,
     /// and one for each whose condition holds; one for each cite, hidden or not; and, where there
@@ -42,8 +42,8 @@ impl<'a, T: EntryLike, P: Eq + Drop> BibliographyDriver<'a, T, P> {
     /// # Errors
     /// `MacroRing` only where a style has macros that call each other in a ring;
     /// `NumberOverflow` only where none has, and the offset and the number of distinct entries
-    /// together are above `usize::MAX`; neither is ever answered. `OutOfMemory` where memory runs
-    /// out, at any point.
+    /// together are above `usize::MAX`; in both cases there is never an answer. `OutOfMemory` where
+    /// memory runs out, at any point.
     pub fn finish_csl(
         self,
         request: BibliographyRequest<'_, 'a, T>,
@@ -79,8 +79,8 @@ impl<'a, T: EntryLike, P: Eq + Drop> BibliographyDriver<'a, T, P> {
         self.answer_csl_with(&request, writer)
     }
 
-    /// Answers all requests, as this writer writes: rings are refused, the entries that are cited
-    /// are listed, and what is then known is finished.
+    /// Answers all requests, as `finish_csl_with` does, and leaves the driver and the request as
+    /// they are, for another call.
     ///
     /// # Errors
     /// Those of `finish_csl_with`.

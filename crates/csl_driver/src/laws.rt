@@ -29,7 +29,7 @@ pub use csl_round_laws::laws::runs_are_lawful;
 /// empty one to the account's, along which states go on, suffixes stay, nothing is left, and (in
 /// mode full) ranks rise; the entries of the account have the numbers from the offset on, each
 /// once; and each citation comes from the cites of its request in a final order, whose collapsed
-/// runs can be read back.
+/// ranges can be read back.
 pub fn answers_keep_laws<T: EntryLike, P: Eq>()
     ensures { (writing : Writing T P) (mode : RoundMode) (job : Job T P) (r : Rendered × Account T)
         → IsExactly T.eq P.eq writing mode job r → KeepsLaws T.eq P.eq writing mode job r }
