@@ -11,16 +11,16 @@ which the account is printed, or why there is none; where there is a NAME.alone,
 written without a driver; where there is a NAME.equality, it is told which requests are equal to the
 first, and whether that for the bibliography is one for its style alone. A copy of each answer has
 to be equal to it. It tells where each document that is refused is wrong, which faults.txt has for
-most of them, and nothing of the others. It answers each document that has an answer once more from
-a table of what its styles write; with any one thing taken out exactly that has to be missing, and a
-table that is empty at first has to be filled in at most three calls more than rounds mark. Where
-there is a NAME.context, it prints what calls of a writing context give in the document's first
-style, and where there is a NAME.cites, what calls that render its entries give. crates/test_rows,
-which has cases that no document can express, has to say of each that it is as it should be. It
-refuses each growth of memory in turn (refuse.c, for which a C compiler must be there), in all of
-these programs but the last; each such sweep is for some calls, and fails where one of them met no
-refusal. Without the library jsonschema the documents aren't held to the schema: a line says so, and
-where the environment has CI set, it fails.
+most of them, and nothing of the others. Where there is a NAME.context, it prints what calls of a
+writing context give in the document's first style, and where there is a NAME.cites, what calls that
+render its entries give. crates/test_tables, which is looked for likewise, answers each document that
+has an answer once more from a table of what its styles write; with any one thing taken out exactly
+that has to be missing, and a table that is empty at first has to be filled in at most three calls
+more than rounds mark. crates/test_rows, which has cases that no document can express, has to say of
+each that it is as it should be. It refuses each growth of memory in turn (refuse.c, for which a C
+compiler must be there), in all of these programs but the last; each such sweep is for some calls,
+and fails where one of them met no refusal. Without the library jsonschema the documents aren't held
+to the schema: a line says so, and where the environment has CI set, it fails.
 run.py PROGRAM FOLDER..: runs it on the documents of these folders, and does nothing else.
 
 A document is NAME.json. NAME.txt is what it must print; where the status isn't 0, NAME.status has
@@ -227,11 +227,11 @@ def tests_of_calls(calls, bases):
     return [*made, ('standalone: ' + name_of(ring), by_calls, calls, 'standalone_citation', ring, 3, b'')]
 
 
-def tests_of_tables(calls, bases):
-    """What crates/test_calls is to do from a table with the documents that have an answer."""
+def tests_of_tables(tables, bases):
+    """What crates/test_tables is to do with the documents that have an answer."""
     # (what is written is kept under the name of a style, and those of equality/ have equal styles of several names)
     named = [it for it in bases if wanted(it)[0] == 0 and os.path.dirname(it) != HERE + '/equality']
-    return [('table: ' + name_of(it), by_calls, calls, 'table', it, 0, wanted(it)[1]) for it in named]
+    return [('table: ' + name_of(it), by_calls, tables, 'table', it, 0, wanted(it)[1]) for it in named]
 
 
 def tests_of_contexts(calls, bases):
@@ -820,20 +820,20 @@ def sweeps_of_calls(shim, program):
 
 
 def sweeps_of_tables(shim, program):
-    """Those of answers from a table."""
+    """Those of crates/test_tables."""
     given = {it: read(HERE + '/' + it + '.json') for it in SWEPT_TABLES}
     ways = [('drive 1', ['finish_with', 'drive']), ('fill 1', ['finish_with', 'answer_by'])]
     return [('growths of %s: %s' % (way, it), sweep_of_calls, shim, program, way, swept, given[it], 0, b'')
             for way, swept in ways for it in SWEPT_TABLES]
 
 
-def sweeps(program, calls):
+def sweeps(program, calls, tables):
     """The sweeps of the programs that are built, each with its name."""
     shim = compiled(tempfile.mkdtemp())
     made = [('growths of %s' % it, sweep_of_program, shim, program, it) for it in SWEPT]
-    for sweeps_of in (sweeps_of_calls, sweeps_of_tables, sweeps_of_contexts) if calls else ():
+    for sweeps_of in (sweeps_of_calls, sweeps_of_contexts) if calls else ():
         made += sweeps_of(shim, calls)
-    return made
+    return made + (sweeps_of_tables(shim, tables) if tables else [])
 
 
 def model(program, *mode):
@@ -914,17 +914,18 @@ def main():
     tests = [('model: %d random documents' % RANDOM_DOCUMENTS, model, program)]
     tests.append(('model: %d random documents of the mode csl' % RANDOM_DOCUMENTS, model, program, 'csl'))
     tests += [('process: ' + it.__name__.replace('_', ' '), it, program) for it in reversed(PROCESSES)]
-    calls, rows = (beside(program, it) for it in ('test_calls', 'test_rows'))
+    calls, tables, rows = (beside(program, it) for it in ('test_calls', 'test_tables', 'test_rows'))
     try:
-        tests += sweeps(program, calls)
+        tests += sweeps(program, calls, tables)
     except Failed as error:
         tests.append(('growths of memory', cannot, str(error)))
     if calls:
-        for tests_of in (tests_of_calls, tests_of_tables, tests_of_contexts, faults):
+        for tests_of in (tests_of_calls, tests_of_contexts, faults):
             tests += tests_of(calls, bases)
         tests += [('process: ' + it.__name__.replace('_', ' '), it, calls) for it in (failing_writer, slow_reader, most_reads)]
     else:
         tests.append(('program of calls', cannot, 'crates/test_calls is not built'))
+    tests += tests_of_tables(tables, bases) if tables else [('program of tables', cannot, 'crates/test_tables is not built')]
     tests += tests_of_cases(rows) if rows else [('program of cases', cannot, 'crates/test_rows is not built')]
     tests += [(name_of(it), document, program, it) for it in bases]
     tests += [('model: ' + name_of(it), worked, it) for it in [*folders_of(HERE), ROOT + '/examples']]

@@ -15,7 +15,7 @@ use csl_base::entry::PlainEntry;
 use csl_driver::account::Account;
 use csl_driver::driver::BibliographyDriver;
 use csl_driver::error::{CitationRefused, DriverError};
-use csl_driver::rendered::Rendered;
+use csl_driver::rendered::{Rendered, RenderedBibliography};
 use csl_driver::request::{BibliographyRequest, CitationRequest};
 use csl_driver::standalone::standalone_citation;
 use csl_driver::terms::TermTables;
@@ -27,7 +27,6 @@ use json_document::requests::{AskedRequest, Targets, driver_request};
 use json_document::rounds::Rounds;
 use std::alloc::{AllocError, Global};
 use std::convert::Infallible;
-use test_tables::printing::print_answer;
 
 /// How many bytes the text of a document takes at most that is written into memory.
 const CAPACITY: usize = 65_536;
@@ -65,15 +64,6 @@ pub enum Seen {
     AnswerAtLast,
     /// Something that may never be.
     Amiss(&'static str),
-}
-
-impl From<test_tables::seen::Seen> for Seen {
-    fn from(seen: test_tables::seen::Seen) -> Seen {
-        match seen {
-            test_tables::seen::Seen::Answer => Seen::Answer,
-            test_tables::seen::Seen::Amiss(what) => Seen::Amiss(what),
-        }
-    }
 }
 
 /// A document, and what the indexes of its job point to.
@@ -159,6 +149,27 @@ fn bibliography_asked<'o, 'e, 'f: 'e>(
     let wanted = &asking.document.job.wanted;
     let made = bibliography_request(alloc, wanted, order, asking.targets)?;
     Ok(if is_prepared { made } else { made.unprepared() })
+}
+
+fn print_items(rt: &impl Print, bibliography: &RenderedBibliography) {
+    let _ = println!(rt; "");
+    for item in bibliography.items.as_slice() {
+        let _ = print!(rt; "{}\t", item.key.as_str());
+        if let Some(field) = &item.first_field {
+            let _ = print!(rt; "{field}");
+        }
+        let _ = println!(rt; "{}", item.content);
+    }
+}
+
+/// Prints an answer as `cite_run` does.
+pub(crate) fn print_answer(rt: &impl Print, rendered: &Rendered) {
+    for each in rendered.citations.as_slice() {
+        let _ = println!(rt; "{}", each.citation);
+    }
+    if let Some(bibliography) = &rendered.bibliography {
+        print_items(rt, bibliography);
+    }
 }
 
 /// The answer and its account, by the call for so many rounds.

@@ -1,7 +1,7 @@
 //! Answers a document call by call, for what no document shows: what an answer cost and by what its
 //! entries are disambiguated, where a ring stands, citations and passes by themselves, writers and
-//! readers that fail, and runs in which one growth of memory is refused; an answer from a table
-//! (`test_tables`); and the calls of a writing context (`test_contexts`).
+//! readers that fail, and runs in which one growth of memory is refused; and the calls of a writing
+//! context (`test_contexts`).
 //!
 //! The first line of standard input says what is done (a number: `run`, over a writer that fails
 //! behind so many bytes), and the document follows. Before each call its name is written to
@@ -23,8 +23,6 @@ use json_document::document::utf8_text;
 use std::process::ExitCode;
 use test_contexts::ended::Ended;
 use test_contexts::{context_way, in_context};
-use test_tables::by_table::by_table;
-use test_tables::table_way;
 
 /// By which calls the first line says that the document is answered.
 fn how_of(asked: &str) -> Option<How> {
@@ -51,9 +49,6 @@ fn answer_to(rt: &(impl Print + Eprint + AllocGlobal), text: &str) -> Result<See
     };
     if let Some(how) = how_of(asked) {
         return answered(rt, document, how);
-    }
-    if let Some(way) = table_way(asked) {
-        return Ok(by_table(rt, document, way)?.into());
     }
     if let Some(way) = context_way(asked) {
         return seen_in_context(in_context(rt, document, way));
