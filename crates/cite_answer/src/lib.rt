@@ -2,5 +2,4 @@
 #![tactic(auto)]
 
 pub mod printing;
-mod quotes;
 mod rendered;

@@ -1,8 +1,8 @@
 //! Answers with the driver's trees.
-use crate::quotes::with_marks;
 use cite_host::answer::{Answer, ListedItem};
 use cite_host::cites::Citation;
 use cite_pieces::formatting::TextFormatting;
+use cite_pieces::marked::with_marks;
 use cite_pieces::pieces::Pieces;
 use cite_trees::trees::tree_of;
 use csl_assembly::rendered::{BibliographyItem, Rendered, RenderedBibliography, RenderedCitation};

@@ -5,6 +5,7 @@ use crate::setting::Setting;
 use crate::sorting::SortedCitation;
 use crate::wording::{begins_sentence, names_alone, with_affixes, with_capital_term};
 use cite_pieces::formatting::TextFormatting;
+use cite_pieces::marked::with_field_marks;
 use cite_pieces::output::{AffixPlace, Element, written};
 use cite_pieces::pieces::Pieces;
 use cite_pieces::punctuation::punctuated;
@@ -178,8 +179,9 @@ impl<'s, 'i, 'd> TaskWriter<'s, 'i, 'd> {
             has_tested_disambiguate,
             usage,
         } = cite;
-        let in_quotes = self.setting.locale.has_punctuation_in_quotes();
-        let pieces = punctuated(self.alloc, pieces, in_quotes)?;
+        let locale = self.setting.locale;
+        let pieces = with_field_marks(self.alloc, pieces, locale.quote_marks())?;
+        let pieces = punctuated(self.alloc, pieces, locale.has_punctuation_in_quotes())?;
         let first_name = match first_forms {
             Some(forms) => Some(NameDisambiguationProperties {
                 forms: Seq::new(forms),

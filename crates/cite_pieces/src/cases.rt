@@ -110,7 +110,7 @@ impl Spoken {
 
 fn mark_before(wrap: &Wrap) -> &'static str {
     match wrap {
-        Wrap::Quotes => QUOTE,
+        Wrap::Quotes(_) => QUOTE,
         _ => "",
     }
 }
@@ -126,6 +126,6 @@ fn keeps(wrap: &Wrap) -> bool {
                 || formatting.vertical_align == Some(VerticalAlign::Superscript)
                 || formatting.vertical_align == Some(VerticalAlign::Subscript)
         }
-        Wrap::Quotes | Wrap::Link(_) | Wrap::Display(_) | Wrap::Mark(_) => false,
+        Wrap::Quotes(_) | Wrap::Link(_) | Wrap::Display(_) | Wrap::Mark(_) => false,
     }
 }

@@ -75,7 +75,7 @@ impl Page<'_> {
                 let inside = around.with_markup(*style);
                 OpenWrap::Formatting(Tags::between(around, inside), inside)
             }
-            Wrap::Quotes => {
+            Wrap::Quotes(_) => {
                 let mark = self.marks.open;
                 self.push_text(mark)?;
                 self.marks = self.marks.inside();

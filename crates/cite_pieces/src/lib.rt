@@ -8,6 +8,7 @@
 mod cases;
 pub mod formatting;
 pub mod html;
+pub mod marked;
 pub mod output;
 pub mod piece;
 pub mod pieces;

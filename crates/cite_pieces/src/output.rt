@@ -1,7 +1,7 @@
 //! Elements of a style as they are written: affixes, delimiters and what stands around a text.
 use crate::cases::{in_case, without_periods};
 use crate::formatting::NOTHING_ASKED;
-use crate::piece::{Mark, Wrap};
+use crate::piece::{Mark, QuoteSource, Wrap};
 use crate::pieces::Pieces;
 use crate::rich::rich_pieces;
 use csl_references::rich_text::RichText;
@@ -31,6 +31,8 @@ pub struct Element<'s> {
     pub has_quotes: bool,
     pub display: Option<Display>,
     pub text_case: Option<TextCase>,
+    /// The language of the text case, where it isn't that of all that is written.
+    pub language: Option<Language>,
     /// Whether its content loses its periods (strip-periods).
     pub strips_periods: bool,
     /// What its content is marked as.
@@ -48,6 +50,7 @@ impl Element<'_> {
         has_quotes: false,
         display: None,
         text_case: None,
+        language: None,
         strips_periods: false,
         mark: None,
     };
@@ -271,7 +274,7 @@ fn set(alloc: Global, element: Element<'_>, content: Pieces) -> Result<Pieces, A
         formatted = wrapped(alloc, Wrap::Mark(mark), formatted)?;
     }
     if element.has_quotes {
-        formatted = wrapped(alloc, Wrap::Quotes, formatted)?;
+        formatted = wrapped(alloc, Wrap::Quotes(QuoteSource::Style), formatted)?;
     }
     if element.affixes == AffixPlace::Inside {
         return Ok(formatted);
@@ -296,7 +299,7 @@ fn changed(
     language: Language,
 ) -> Result<Pieces, AllocError> {
     let content = match element.text_case {
-        Some(case) => in_case(alloc, content, case, language)?,
+        Some(case) => in_case(alloc, content, case, element.language.unwrap_or(language))?,
         None => content,
     };
     if element.strips_periods {

@@ -19,11 +19,20 @@ pub enum Wrap {
     /// The markup of a text. It flips: italics in italics are upright.
     Markup(RunStyle),
     /// Quotation marks, which are those of inner quotes inside others.
-    Quotes,
+    Quotes(QuoteSource),
     /// What is inside leads to this URL.
     Link(String),
     Display(Display),
     Mark(Mark),
+}
+
+/// Whose quotes are.
+#[derive(Clone, Copy, PartialEq, Eq)]
+pub enum QuoteSource {
+    /// An element of the style asks for them.
+    Style,
+    /// The text of a field has them.
+    Field,
 }
 
 /// What a part of a stream was written for. A number tells parts apart, and is the caller's own.

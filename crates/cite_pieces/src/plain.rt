@@ -24,7 +24,7 @@ pub fn plain_text(
         match piece {
             Piece::Text(text) => push_text(&mut out, text.as_str())?,
             Piece::Open(wrap) => {
-                let is_quote = matches!(wrap, Wrap::Quotes);
+                let is_quote = matches!(wrap, Wrap::Quotes(_));
                 are_quotes.push(is_quote)?;
                 if is_quote {
                     out.push_str(marks.open)?;

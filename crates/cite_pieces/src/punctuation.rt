@@ -62,7 +62,7 @@ enum Edge {
 
 impl Joints {
     fn open(&mut self, wrap: Wrap) -> Result<(), AllocError> {
-        let is_quote = matches!(&wrap, Wrap::Quotes);
+        let is_quote = matches!(&wrap, Wrap::Quotes(_));
         self.are_quotes.push(is_quote)?;
         self.behind.push(Edge::Open(wrap))?;
         if is_quote {

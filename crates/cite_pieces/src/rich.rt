@@ -1,5 +1,5 @@
 //! Texts with markup, as the fields of an entry have it, and the quotes in them.
-use crate::piece::Wrap;
+use crate::piece::{QuoteSource, Wrap};
 use crate::pieces::Pieces;
 use csl_references::rich_text::{RichText, Run, RunStyle};
 use std::alloc::{AllocError, Global};
@@ -91,7 +91,7 @@ impl Writer {
         match role {
             Role::Opens => {
                 self.flush()?;
-                self.out.open(Wrap::Quotes)
+                self.out.open(Wrap::Quotes(QuoteSource::Field))
             }
             Role::Closes => {
                 self.flush()?;

@@ -1,6 +1,6 @@
 //! Streams of trees.
 use cite_pieces::formatting::NOTHING_ASKED;
-use cite_pieces::piece::Wrap;
+use cite_pieces::piece::{QuoteSource, Wrap};
 use cite_pieces::pieces::Pieces;
 use csl_base::elem::{Elem, ElemChild, ElemChildren, ElemMeta};
 use csl_base::formatting as tree;
@@ -110,7 +110,7 @@ fn push_child(alloc: Global, stream: &mut Pieces, child: &ElemChild) -> Result<(
 fn push_elem(alloc: Global, stream: &mut Pieces, elem: &Elem) -> Result<(), AllocError> {
     let wrap = match (&elem.display, &elem.meta) {
         (Some(display), _) => Some(Wrap::Display(file_display(*display))),
-        (None, None) => Some(Wrap::Quotes),
+        (None, None) => Some(Wrap::Quotes(QuoteSource::Style)),
         (None, Some(_)) => None,
     };
     let Some(wrap) = wrap else {

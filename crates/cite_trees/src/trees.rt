@@ -125,7 +125,7 @@ impl Builder<'_> {
                 self.url = Some(Text::new(url));
                 Opened::Link
             }
-            Wrap::Quotes => self.opened(None, None),
+            Wrap::Quotes(_) => self.opened(None, None),
             Wrap::Display(display) => self.opened(Some(tree_display(display)), None),
             Wrap::Mark(mark) => match self.meta_of(mark)? {
                 Some(meta) => self.opened(None, Some(meta)),

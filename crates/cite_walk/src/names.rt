@@ -13,6 +13,7 @@ use csl_base::entry::Person;
 use csl_base::names::DisambiguatedNameForm;
 use csl_base::seq::Seq;
 use csl_references::name::Name;
+use csl_texts::cases::Language;
 use csl_vocabulary::term::{PlainTerm, TermForm};
 use csl_vocabulary::variable::{NameVariable, Variable};
 use std::alloc::{AllocError, Global};
@@ -263,7 +264,8 @@ impl<'s, 'c> Walk<'s, 'c> {
             .locale
             .plain_term(block.term, label.options.form, is_plural)
             .unwrap_or("");
-        self.output.open(label_element(&label.options))?;
+        self.output
+            .open(label_element(&label.options, self.scene.locale.language()))?;
         self.output.push_str(words)?;
         self.output.close()?;
         Ok(())
@@ -363,9 +365,10 @@ fn are_editor_and_translator(one: NameVariable, other: NameVariable) -> bool {
 }
 
 /// The element of a label.
-pub(crate) fn label_element(label: &LabelOptions) -> Element<'_> {
+pub(crate) fn label_element(label: &LabelOptions, language: Language) -> Element<'_> {
     Element {
         text_case: label.text_case,
+        language: Some(language),
         strips_periods: label.strip_periods,
         ..element_with(&label.affixes, label.formatting)
     }

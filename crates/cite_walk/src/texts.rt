@@ -64,7 +64,7 @@ impl<'s> Walk<'s, '_> {
     ) -> Result<(), AllocError> {
         self.output.open(Element {
             mark,
-            ..text_element(text)
+            ..self.words_element(text)
         })?;
         self.output.push_str(words)?;
         self.output.close()?;
@@ -78,12 +78,20 @@ impl<'s> Walk<'s, '_> {
         self.dates = self.dates.saturating_add(1);
         self.output.open(Element {
             mark: Some(mark),
-            ..Element::PLAIN
+            ..self.words_element(text)
         })?;
-        self.write_words(text, words, None)?;
+        self.output.push_str(words)?;
         self.write_implicit_suffix()?;
         self.output.close()?;
         Ok(())
+    }
+
+    /// The element of words of a style or a locale, which are in the language of these.
+    fn words_element(&self, text: &'s Text) -> Element<'s> {
+        Element {
+            language: Some(self.scene.locale.language()),
+            ..text_element(text)
+        }
     }
 
     fn write_text_variable(
