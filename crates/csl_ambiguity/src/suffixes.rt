@@ -106,7 +106,7 @@ fn adds_suffix<T, P>(
     false
 }
 
-/// A mark for each of the cites, whose suffix is its place among them.
+/// A mark for each of the cites, whose suffix is its index among them.
 fn numbered<T>(alloc: Global, firsts: &[FirstCite<'_, T>]) -> Result<Marks, AllocError>
     ensures { IfOk result (λ v. v.items
         ≡ map (λ p. (p.1.1, YearSuffix p.0)) (enumerate_from 0 (firsts_view firsts.now))) }
@@ -133,7 +133,7 @@ fn suffix_marks<T: EntryLike, P>(
 }
 
 /// The suffix marks of an ambiguous group: one for each entry, at its first cite there. The suffix
-/// is the place of the entry among those of the group, in the order of their first cites. There are
+/// is the index of the entry among those of the group, in the order of their first cites. There are
 /// none where no cite of the document shows a date (`shows_dates`), and none where the style of no
 /// cite of the group adds suffixes; so an empty group gives no marks.
 ///

@@ -8,16 +8,16 @@ ghost use Rattle.csl_passes.specs.ByPlaces.{by_places};
 use csl_base::elem::ElemMeta;
 use csl_passes::renders::SpeculativeItemRender;
 
-/// Whether numbers rise by one from each cite to the next, around one of them.
+/// Whether numbers rise by one from each cite to the next, around cite k.
 #[derive(Clone, Copy)]
 struct Rises {
-    /// To the cite before the one before, from the cite before that.
+    /// From cite k - 3 to cite k - 2.
     earlier: bool,
-    /// To the cite before, from the one before that.
+    /// From cite k - 2 to cite k - 1.
     before: bool,
-    /// To the cite, from the one before.
+    /// From cite k - 1 to cite k.
     here: bool,
-    /// To the cite behind.
+    /// From cite k to cite k + 1.
     behind: bool,
 }
 
@@ -37,7 +37,7 @@ impl Rises {
     }
 }
 
-/// Draws runs of numbers together; `after` stands before a run that follows one with inner cites.
+/// Collapses runs of numbers; `after` stands before a run that follows one with hidden cites.
 pub(crate) fn collapse_numbers<'a, T, P>(
     items: &mut [SpeculativeItemRender<'a, T, P>],
     after: Option<&'a str>,

@@ -97,7 +97,7 @@ impl<'a, T, P> Context<'a, T, P> {
         self.style.term(locator, term, form, plural)
     }
 
-    /// Makes sure that a space or a no-break space ends what was written: the buffer, or where that
+    /// Adds a space where no space or no-break space ends what was written: the buffer, or where that
     /// is empty the last text of the top frame, if it has one.
     ///
     /// # Errors
@@ -112,7 +112,8 @@ impl<'a, T, P> Context<'a, T, P> {
     }
 
     /// Writes `s`. Where it begins with a mark that closing quotes may pull in, the mark moves
-    /// before the quote that stands there; white space and repeated punctuation before `s` go;
+    /// before the quote that stands there. White space before `s` goes where `s` begins with white
+    /// space, a period, a comma or a closing bracket; punctuation that `s` repeats is written once;
     /// periods of `s` that are to be stripped are left out.
     ///
     /// # Errors
@@ -155,7 +156,7 @@ impl<'a, T, P> Context<'a, T, P> {
         wording::push_link(&mut self.writing, text, url)
     }
 
-    /// Adds a place for what the caller puts in for the cite at `cite_idx`.
+    /// Adds a mark for what the caller puts in for the cite at index `cite_idx`.
     ///
     /// # Errors
     ///
@@ -228,7 +229,8 @@ impl<'a, T, P> Context<'a, T, P> {
     }
 
     /// Closes the frame that a prefix began, with the suffix unless the text ends with it. Where
-    /// the frame shows nothing but the prefix, it is dropped.
+    /// the frame shows nothing but the prefix, it is dropped. `prefix` is what `apply_prefix` gave;
+    /// frames that were opened behind it are closed before.
     ///
     /// # Errors
     ///

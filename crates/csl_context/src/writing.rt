@@ -295,7 +295,8 @@ impl<'a> WritingContext<'a> {
     }
 
     /// Writes `s`. Where it begins with a mark that closing quotes may pull in, the mark moves
-    /// before the quote that stands there; white space and repeated punctuation before `s` go.
+    /// before the quote that stands there. White space before `s` goes where `s` begins with white
+    /// space, a period, a comma or a closing bracket; punctuation that `s` repeats is written once.
     ///
     /// # Errors
     ///

@@ -161,7 +161,11 @@ impl Listing {
         Ok(())
     }
 
-    /// The entries at these places in their order, each once. So many entries have a place.
+    /// Of `count` entries those at these indexes, in this order, each once.
+    ///
+    /// # Errors
+    ///
+    /// Where memory is refused.
     pub fn of_indices(alloc: Global, count: usize, places: &[usize]) -> Result<Listing, AllocError>
         requires within { All (λ p. p < count) places.now }
         ensures { IfOk result (λ l. listing_view l ≡ listed_places count places.now) }
@@ -171,7 +175,12 @@ impl Listing {
         Ok(listing)
     }
 
-    /// The bibliography's order of the entries of a table: those of the handed order first.
+    /// The bibliography's order of the entries of a table: those of the handed order that are
+    /// there, and then all others.
+    ///
+    /// # Errors
+    ///
+    /// Where memory is refused.
     pub fn of_table<'a, T: EntryLike>(
         alloc: Global,
         table: &EntryTable<'a, T>,

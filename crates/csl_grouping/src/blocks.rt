@@ -22,7 +22,7 @@ use std::hash::{Hash, Hasher};
 pub(crate) enum Key<'r> {
     /// The first names element.
     Named(&'r Elem),
-    /// The place of a cite without names.
+    /// A cite without names, by its index.
     Alone(usize),
 }
 
@@ -64,10 +64,10 @@ impl Hash for Key<'_> {
     }
 }
 
-/// Where a cite goes.
+/// A cite in its block.
 #[derive(Clone, Copy)]
 pub(crate) struct Placed {
-    /// The place at which it stands.
+    /// The index at which it was handed in.
     pub(crate) place: usize,
     /// The index of its block.
     pub(crate) group: Option<usize>,
@@ -75,7 +75,7 @@ pub(crate) struct Placed {
     pub(crate) follows: bool,
 }
 
-/// The key of the cite at a place.
+/// The key of the cite at index k.
 fn key_of<'r, T, P>(cite: &'r SpeculativeItemRender<'_, T, P>, k: usize) -> Key<'r>
     ensures { key_view result ≡ key_of k (item_view cite.now) }
 {
@@ -85,7 +85,7 @@ fn key_of<'r, T, P>(cite: &'r SpeculativeItemRender<'_, T, P>, k: usize) -> Key<
     }
 }
 
-/// Adds a place to the block of its key.
+/// Adds the cite at index k to the block of its key.
 fn add_place<'r>(
     alloc: Global,
     blocks: &mut IndexMap<Key<'r>, Vec<usize>>,
@@ -125,7 +125,7 @@ fn blocks_of<'r, T, P>(
     Ok(blocks)
 }
 
-/// Adds the cites of a block.
+/// Adds the cites of a block to an order.
 fn push_block(
     order: &mut Vec<Placed>,
     places: &[usize],
@@ -145,8 +145,8 @@ fn push_block(
     Ok(())
 }
 
-/// Adds the cites of the block of a key, where the next block with names has this index; gives the
-/// index of the one behind.
+/// Adds the cites of the block of a key to an order, where the next block with names has this index;
+/// gives the index that the next one has then.
 fn push_named(
     order: &mut Vec<Placed>,
     key: &Key<'_>,

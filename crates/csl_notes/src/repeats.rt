@@ -85,7 +85,7 @@ fn entries_of_notes<L>(
     Ok(noted)
 }
 
-/// Notes the entries of a request, if it stands in a note.
+/// Adds the entries of a request to those of its note, if it stands in one.
 fn note_request<L>(
     noted: &mut HashMap<usize, NoteEntries>,
     request: &PlacedRequest<L>,
@@ -104,7 +104,7 @@ fn note_request<L>(
     }
 }
 
-/// Notes the entries of cites in a note.
+/// Adds the entries of cites to those of a note.
 fn note_cites<L>(
     noted: &mut HashMap<usize, NoteEntries>,
     number: usize,
@@ -120,7 +120,7 @@ fn note_cites<L>(
     Ok(())
 }
 
-/// Notes an entry in a note.
+/// Adds an entry to those of a note.
 fn note_entry(
     noted: &mut HashMap<usize, NoteEntries>,
     number: usize,
@@ -134,7 +134,7 @@ fn note_entry(
     Ok(())
 }
 
-/// The entries of a note once one more was noted.
+/// The entries of a note with one more.
 fn noted_with(noted: &HashMap<usize, NoteEntries>, number: usize, entry: usize) -> NoteEntries
     ensures { result ≡ noted_with entry (get nat_eq noted.now number) }
 {

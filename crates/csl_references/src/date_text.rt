@@ -19,13 +19,14 @@ const MONTHS: [&str; 12] = [
     "december",
 ];
 
-/// The least number of digits of a year beside which no era stands.
+/// The least number of digits of a year beside which no era stands: a day has two.
 const YEAR_DIGITS: usize = 3;
 
-/// The most digits of a number of a date.
+/// The most digits of a number of a date, so that it fits an `i32`.
 const MOST_DIGITS: usize = 9;
 
-/// The date that the text tells; none where it tells none.
+/// The date that the text tells: EDTF, numbers (`1999-5-3`, `5/3/1999`) or English words, or a range
+/// of these by `–`, `-` or `/`; none where it tells none.
 pub(crate) fn date_of_text(text: &str) -> Option<DateReading> {
     let text = text.trim();
     if let Some(reading) = edtf_date(text) {
@@ -113,7 +114,7 @@ fn day_in(year: Digits, month: Digits, day: Digits) -> Option<PartialDate> {
     })
 }
 
-/// The year, if its digits show that it is one.
+/// The year, if its digits show that it is one; 0 is none.
 fn long_enough(year: Digits) -> Option<i32> {
     if year.count >= YEAR_DIGITS && year.number != 0 {
         Some(year.number)
@@ -132,7 +133,7 @@ enum Era {
 }
 
 /// A year; or a month or a season, and a year; or a month, a day and a year; or a day, a month and
-/// a year. `circa` may stand before it, and an era before or behind.
+/// a year. `circa` may stand before it or `?` behind it, AD before it, and any era behind it.
 fn worded_date(text: &str) -> Option<Point> {
     let (text, is_uncertain) = without_doubt(text);
     let (text, era) = without_era(text);
@@ -224,7 +225,7 @@ fn day_of(month: &str, day: &str) -> Option<YearPart> {
     Some(YearPart::Day(month, Day::new(i64::from(digits.number))?))
 }
 
-/// The month of this name, which may be cut behind its third letter.
+/// The month of this name, or of its first letters, three at least.
 fn month_named(word: &str) -> Option<Month> {
     let word = word.strip_suffix('.').unwrap_or(word);
     if word.len() < 3 {

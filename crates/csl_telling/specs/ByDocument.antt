@@ -12,8 +12,8 @@ abbrev pub without_full : DisambiguatedNameForm → DisambiguatedNameForm
 without_full DisambiguatedNameForm.LongFull = DisambiguatedNameForm.Short
 without_full form = form
 
--- the form of name i by a rule, where `among` are the persons that it is to be told from, and
--- `first` those where it is the first one
+-- the form of name i by a rule, from the form that it needs among all persons (`all`) and the one
+-- that it needs among first persons (`first`)
 abbrev pub form_by_rule : Option DisambiguationRule → ℕ → DisambiguatedNameForm
     → DisambiguatedNameForm → DisambiguatedNameForm
 form_by_rule None i all first = DisambiguatedNameForm.Short

@@ -33,6 +33,7 @@ pub(crate) struct Needs {
     pub(crate) forms: Seq<DisambiguatedNameForm>,
 }
 
+/// Adds what is shown at a stop.
 fn add_stop(
     alloc: Global,
     beside: &mut Rivals,
@@ -47,6 +48,7 @@ fn add_stop(
     }
 }
 
+/// Adds what is shown at each stop of a way.
 fn add_way(alloc: Global, beside: &mut Rivals, way: &Way) -> Result<(), AllocError>
     ensures { OnOk result (TellsMore beside.old beside.new (shown_by way.now)) }
 {
@@ -56,6 +58,7 @@ fn add_way(alloc: Global, beside: &mut Rivals, way: &Way) -> Result<(), AllocErr
     Ok(())
 }
 
+/// Adds the node of a stop at which the names end.
 fn add_end(ends: &mut IndexSet<Node>, stop: &Stop) -> Result<(), AllocError>
     ensures { OnOk result ((n : NodeValue) → is_end n ends.new.keys
         ≡ is_end n (ends.old.keys ++ ends_at stop.now)) }
@@ -66,6 +69,7 @@ fn add_end(ends: &mut IndexSet<Node>, stop: &Stop) -> Result<(), AllocError>
     Ok(())
 }
 
+/// Adds the node at which the names of a way end.
 fn add_ends(ends: &mut IndexSet<Node>, way: &Way) -> Result<(), AllocError>
     ensures { OnOk result ((n : NodeValue) → is_end n ends.new.keys
         ≡ is_end n (ends.old.keys ++ ends_of way.now)) }
@@ -89,6 +93,8 @@ pub(crate) fn gather(alloc: Global, ways: &[Way]) -> Result<Gathered, AllocError
     Ok(Gathered { beside, ends })
 }
 
+/// How many names are needed behind `i` names at a stop: one more where another way goes on there
+/// with another look, as many where one ends there.
 fn count_of(i: usize, other_goes_on: bool, other_ends: bool) -> usize
     requires { i + 1 < 2 ^ 64 }
     ensures { result ≡ count_of i other_goes_on other_ends }

@@ -195,6 +195,7 @@ pub fn by_mention<X>(all: &[X], entry: usize, is_first: bool) -> Option<&X>
     ensures { option_map (λ x. x.now) result ≡ slice_get all.now (mention_index entry is_first) }
 {
     let half = all.len() / 2;
+    // (so that twice the index is no overflow)
     if entry > half {
         return None;
     }
