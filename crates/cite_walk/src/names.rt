@@ -264,8 +264,7 @@ impl<'s, 'c> Walk<'s, 'c> {
             .locale
             .plain_term(block.term, label.options.form, is_plural)
             .unwrap_or("");
-        self.output
-            .open(label_element(&label.options, self.scene.locale.language()))?;
+        self.output.open(label_element(&label.options, self.scene.locale.language()))?;
         self.output.push_str(words)?;
         self.output.close()?;
         Ok(())

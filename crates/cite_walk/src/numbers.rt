@@ -78,8 +78,7 @@ impl<'s> Walk<'s, '_> {
             .locale
             .plain_term(term, label.options.form, is_plural)
             .unwrap_or("");
-        self.output
-            .open(label_element(&label.options, self.scene.locale.language()))?;
+        self.output.open(label_element(&label.options, self.scene.locale.language()))?;
         self.output.push_str(words)?;
         self.output.close()?;
         Ok(())
