@@ -10,7 +10,7 @@ use std::alloc::{AllocError, Global};
 use style_file::formatting::TextCase;
 
 /// The names that stand first in a cite, with their label, or what stands in for them.
-pub(crate) fn names_alone(alloc: Global, pieces: Pieces) -> Result<Pieces, AllocError> {
+pub(crate) fn author_alone(alloc: Global, pieces: Pieces) -> Result<Pieces, AllocError> {
     match first_author(pieces.as_slice()) {
         Some(mark) => pieces.only_mark(alloc, mark),
         None => Ok(pieces),

@@ -3,7 +3,7 @@ use crate::entries::Items;
 use crate::plain_cites::PlainCite;
 use crate::setting::Setting;
 use crate::sorting::SortedCitation;
-use crate::wording::{begins_sentence, names_alone, with_affixes, with_capital_term};
+use crate::wording::{author_alone, begins_sentence, with_affixes, with_capital_term};
 use cite_pieces::formatting::TextFormatting;
 use cite_pieces::marked::with_field_marks;
 use cite_pieces::output::{AffixPlace, Element, written};
@@ -218,7 +218,7 @@ fn for_purpose(
     pieces: Pieces,
 ) -> Result<Pieces, AllocError> {
     if purpose == Some(CitePurpose::Author) {
-        names_alone(alloc, pieces)
+        author_alone(alloc, pieces)
     } else {
         Ok(pieces)
     }

@@ -1,4 +1,5 @@
 //! Letters that a language counts as letters of their own.
+use crate::cases::primary_language;
 
 /// What stands behind a letter for one that follows it in the alphabet. It is behind all letters.
 pub const BEHIND: char = '\u{e000}';
@@ -9,7 +10,7 @@ pub type OwnLetter = (char, &'static str);
 /// The letters that the language of a tag, as `sv-SE`, sorts behind another letter, and not as that
 /// with an accent. Letters of two characters, as the Czech `ch`, aren't among them.
 pub fn own_letters(tag: &str) -> &'static [OwnLetter] {
-    let language = tag.split(|c| c == '-' || c == '_').next().unwrap_or("");
+    let language = primary_language(tag);
     for (languages, letters) in ALPHABETS {
         if languages
             .iter()
@@ -18,11 +19,11 @@ pub fn own_letters(tag: &str) -> &'static [OwnLetter] {
             return *letters;
         }
     }
-    IN_ANY_LANGUAGE
+    IN_OTHER_LANGUAGES
 }
 
 /// The letters of all languages that have no letters of their own here.
-const IN_ANY_LANGUAGE: &[OwnLetter] = &[('й', "и\u{e000}")];
+const IN_OTHER_LANGUAGES: &[OwnLetter] = &[('й', "и\u{e000}")];
 
 /// The letters of languages.
 const ALPHABETS: &[(&[&str], &[OwnLetter])] = &[

@@ -15,7 +15,7 @@ pub enum Language {
 impl Language {
     /// The language of a tag like `en-GB`.
     pub fn of_tag(tag: &str) -> Language {
-        let language = tag.split(|c| c == '-' || c == '_').next().unwrap_or("");
+        let language = primary_language(tag);
         if language.eq_ignore_ascii_case("en") {
             Language::English
         } else if language.eq_ignore_ascii_case("tr") || language.eq_ignore_ascii_case("az") {
@@ -24,6 +24,11 @@ impl Language {
             Language::Other
         }
     }
+}
+
+/// What a tag begins with: `en` of `en-GB`.
+pub(crate) fn primary_language(tag: &str) -> &str {
+    tag.split(|c| c == '-' || c == '_').next().unwrap_or("")
 }
 
 /// A part of a text, by its bytes.
