@@ -86,10 +86,11 @@ pub(crate) fn with_affixes(
         out.push_str(alloc, " ")?;
     }
     out.push_pieces(pieces)?;
-    if needs_space_before(cite.suffix.as_str()) {
+    let suffix = of_markup(alloc, cite.suffix.as_str())?;
+    if suffix.first_char().is_some_and(needs_space_before) {
         out.push_str(alloc, " ")?;
     }
-    out.push_pieces(of_markup(alloc, cite.suffix.as_str())?)?;
+    out.push_pieces(suffix)?;
     Ok(out)
 }
 
@@ -97,11 +98,8 @@ fn needs_space_behind(last: char) -> bool {
     last.is_alphanumeric() || matches!(last, '.' | ',' | ';' | ':' | '!' | '?')
 }
 
-fn needs_space_before(suffix: &str) -> bool {
-    match suffix.chars().next() {
-        Some(first) => first.is_alphanumeric(),
-        None => false,
-    }
+fn needs_space_before(first: char) -> bool {
+    first.is_alphanumeric() || matches!(first, '(' | '[')
 }
 
 fn of_markup(alloc: Global, markup: &str) -> Result<Pieces, AllocError> {

@@ -7,6 +7,7 @@ use crate::wording::{author_alone, begins_sentence, with_affixes, with_capital_t
 use cite_pieces::formatting::TextFormatting;
 use cite_pieces::marked::with_field_marks;
 use cite_pieces::output::{AffixPlace, Element, written};
+use cite_pieces::piece::Mark;
 use cite_pieces::pieces::Pieces;
 use cite_pieces::punctuation::punctuated;
 use cite_trees::trees::tree_of;
@@ -40,6 +41,9 @@ pub(crate) struct TaskWriter<'s, 'i, 'd> {
     /// Of plain cites, where in the table stands what is written of them.
     pub plain_cites: IndexMap<PlainCite, usize>,
 }
+
+/// What marks the first field of an item as a whole: the driver sets apart what is marked first.
+const FIRST_FIELD: Mark = Mark::Entry(0);
 
 /// A cite that is asked for.
 #[derive(Clone, Copy)]
@@ -150,7 +154,10 @@ impl<'s, 'i, 'd> TaskWriter<'s, 'i, 'd> {
             return Ok(nothing(self.alloc));
         };
         let mut listed = write_cite(self.alloc, self.setting.item_scene(bibliography), facts)?;
-        let pieces = replace(&mut listed.pieces, Pieces::new(self.alloc));
+        let mut pieces = replace(&mut listed.pieces, Pieces::new(self.alloc));
+        if bibliography.section.options.second_field_align.is_some() {
+            pieces = pieces.with_first_marked(self.alloc, listed.first_pieces, FIRST_FIELD)?;
+        }
         listed.pieces = self.in_layout(&bibliography.section.layout, pieces)?;
         self.told(listed, TextFormatting::NORMAL)
     }
@@ -174,6 +181,7 @@ impl<'s, 'i, 'd> TaskWriter<'s, 'i, 'd> {
     fn told(&self, cite: WrittenCite, around: TextFormatting) -> Result<driver::Cite, AllocError> {
         let WrittenCite {
             pieces,
+            first_pieces: _,
             names,
             first_forms,
             has_tested_disambiguate,

@@ -9,6 +9,9 @@ use std::alloc::{AllocError, Global};
 use style_file::element::NumberForm;
 use style_file::style::PageRangeFormat;
 
+/// What stands between the numbers of a range that isn't one of pages.
+pub const RANGE_DELIMITER: &str = "–";
+
 /// The text of a number variable in this form, its ordinals for a noun of this gender. A text that
 /// is not numeric stays, but for the hyphens of its ranges, and for numbers before a label, as in
 /// `7, p. 3-8`. A number with letters stays in any form.
@@ -41,16 +44,21 @@ fn labelled_numbers(
     let parts = locator_parts(alloc, locales, text, LocatorType::Page)?;
     let (first, labelled) = match parts.split_first() {
         Some((first, labelled)) if !labelled.is_empty() => (first, labelled),
-        _ => return pages(alloc, locales, text, None),
+        _ => return ranges(alloc, text),
     };
     let Some(before) = number_parts(alloc, first.text)? else {
-        return pages(alloc, locales, text, None);
+        return ranges(alloc, text);
     };
     let mut out = numbers(alloc, locales, &before, form, gender)?;
     for part in labelled {
         push_labelled(alloc, &mut out, locales, part)?;
     }
     Ok(out)
+}
+
+/// A text that is not numeric, with the delimiter of ranges in its ranges.
+fn ranges(alloc: Global, text: &str) -> Result<String, AllocError> {
+    page_ranges(alloc, text, None, RANGE_DELIMITER)
 }
 
 /// Adds a part behind its label.
@@ -66,7 +74,12 @@ fn push_labelled(
         out.push_str(words)?;
         out.push(' ')?;
     }
-    out.push_str(pages(alloc, locales, part.text, None)?.as_str())
+    let text = if part.label == LocatorType::Page {
+        pages(alloc, locales, part.text, None)?
+    } else {
+        ranges(alloc, part.text)?
+    };
+    out.push_str(text.as_str())
 }
 
 fn numbers(
@@ -80,7 +93,7 @@ fn numbers(
     for part in parts {
         push_number(alloc, &mut out, locales, part.number, form, gender)?;
         if let Some(delimiter) = part.delimiter {
-            out.push_str(delimiter_text(locales, delimiter))?;
+            out.push_str(delimiter_text(delimiter))?;
         }
     }
     Ok(out)
@@ -107,9 +120,9 @@ fn push_number(
     }
 }
 
-fn delimiter_text<'a>(locales: &LocaleChain<'a>, delimiter: NumberDelimiter) -> &'a str {
+fn delimiter_text(delimiter: NumberDelimiter) -> &'static str {
     match delimiter {
-        NumberDelimiter::Hyphen => locales.page_range_delimiter(),
+        NumberDelimiter::Hyphen => RANGE_DELIMITER,
         NumberDelimiter::Comma => ", ",
         NumberDelimiter::Ampersand => " & ",
     }

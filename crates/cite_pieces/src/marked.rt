@@ -19,7 +19,7 @@ pub fn with_marks(
 }
 
 /// The stream with quotation marks as text in place of those quotes of fields that stand in no
-/// quotes of the style: punctuation of the style doesn't move into them.
+/// quotes of the style, and don't end their field: no punctuation moves into them.
 ///
 /// # Errors
 ///
@@ -44,7 +44,7 @@ fn opens_field_quotes(piece: &Piece) -> bool {
 #[derive(Clone, Copy, PartialEq, Eq)]
 enum Which {
     All,
-    /// Those of fields in no quotes of the style.
+    /// Those of fields in no quotes of the style, but for those that end a field.
     OfFields,
 }
 

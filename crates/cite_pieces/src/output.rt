@@ -115,6 +115,12 @@ impl<'s> Output<'s> {
         self.open.len()
     }
 
+    /// How many pieces the innermost element that is open has; where none is open, how many have
+    /// been written.
+    pub fn piece_count(&self) -> usize {
+        self.content.as_slice().len()
+    }
+
     /// Opens an element in the innermost one.
     ///
     /// # Errors

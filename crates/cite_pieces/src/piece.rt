@@ -33,6 +33,8 @@ pub enum QuoteSource {
     Style,
     /// The text of a field has them.
     Field,
+    /// So it has, and it ends with them: what stands behind them is the style's.
+    FieldEnd,
 }
 
 /// What a part of a stream was written for. A number tells parts apart, and is the caller's own.

@@ -157,6 +157,34 @@ impl Pieces {
         Ok(())
     }
 
+    /// The stream with this mark around so many of its first pieces, in which as much closes as
+    /// opens; without it where it has none or fewer.
+    ///
+    /// # Errors
+    ///
+    /// Where memory is refused.
+    pub fn with_first_marked(
+        self,
+        alloc: Global,
+        count: usize,
+        mark: Mark,
+    ) -> Result<Pieces, AllocError> {
+        if count == 0 || count > self.pieces.len() {
+            return Ok(self);
+        }
+        let mut marked = Pieces::new(alloc);
+        marked.open(Wrap::Mark(mark))?;
+        let mut passed = 0usize;
+        for piece in self.pieces {
+            marked.pieces.push(piece)?;
+            passed = passed.saturating_add(1);
+            if passed == count {
+                marked.close()?;
+            }
+        }
+        Ok(marked)
+    }
+
     /// The stream without its marks. What is in them stays.
     ///
     /// # Errors

@@ -89,9 +89,9 @@ struct Writer {
 impl Writer {
     fn push_letter(&mut self, letter: Letter, role: Role) -> Result<(), AllocError> {
         match role {
-            Role::Opens => {
+            Role::Opens(source) => {
                 self.flush()?;
-                self.out.open(Wrap::Quotes(QuoteSource::Field))
+                self.out.open(Wrap::Quotes(source))
             }
             Role::Closes => {
                 self.flush()?;
@@ -133,7 +133,7 @@ impl Writer {
 enum Role {
     Text,
     /// The mark before a quote.
-    Opens,
+    Opens(QuoteSource),
     /// The mark behind a quote.
     Closes,
     Apostrophe,
@@ -170,7 +170,8 @@ fn roles(alloc: Global, letters: &[Letter]) -> Result<Vec<Role>, AllocError> {
             continue;
         };
         if let Some(opener) = partner(&waiting, mark, place) {
-            set_role(&mut roles, opener.place, Role::Opens);
+            let source = source_of_quote(letters, place);
+            set_role(&mut roles, opener.place, Role::Opens(source));
             set_role(&mut roles, place, Role::Closes);
             waiting = before(alloc, &waiting, opener)?;
         } else if mark.opens && waiting.len() < MOST_WAITING {
@@ -179,6 +180,15 @@ fn roles(alloc: Global, letters: &[Letter]) -> Result<Vec<Role>, AllocError> {
         }
     }
     Ok(roles)
+}
+
+/// Whose a quote is that ends at this place.
+fn source_of_quote(letters: &[Letter], end: usize) -> QuoteSource {
+    if end.saturating_add(1) == letters.len() {
+        QuoteSource::FieldEnd
+    } else {
+        QuoteSource::Field
+    }
 }
 
 /// What a letter is where it has no partner.

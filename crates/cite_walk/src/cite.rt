@@ -77,6 +77,8 @@ pub struct CiteFacts<'c> {
 #[derive(Drop)]
 pub struct WrittenCite {
     pub pieces: Pieces,
+    /// How many of the pieces are those of the first element of the layout that has text.
+    pub first_pieces: usize,
     /// The persons of its marks of names.
     pub names: Vec<NamedPersons>,
     /// The forms of the names of its first names element, if it has one.

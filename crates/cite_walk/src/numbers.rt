@@ -2,6 +2,7 @@
 use crate::cite::SceneKind;
 use crate::names::label_element;
 use crate::sorted::sorted_number;
+use crate::values::in_place_of;
 use crate::walk::Walk;
 use cite_numbers::forms::number_text;
 use cite_numbers::plurals::is_plural;
@@ -41,7 +42,8 @@ impl<'s> Walk<'s, '_> {
             text_case: number.text_case,
             ..element_with(&number.affixes, number.formatting)
         })?;
-        self.output.push_str(text.as_str())?;
+        self.output
+            .push_rich(&in_place_of(alloc, value.text(), text.as_str())?)?;
         self.output.close()?;
         self.output.close()?;
         Ok(())

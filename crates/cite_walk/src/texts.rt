@@ -2,8 +2,9 @@
 use crate::cite::SceneKind;
 use crate::labels::label_of;
 use crate::sorted::sorted_number;
-use crate::values::{Value, plain_value};
+use crate::values::{Value, in_place_of};
 use crate::walk::{Walk, text_element};
+use cite_numbers::forms::RANGE_DELIMITER;
 use cite_pieces::output::Element;
 use cite_pieces::piece::Mark;
 use csl_lookup::year::letters_of_suffix;
@@ -256,20 +257,39 @@ impl<'s> Walk<'s, '_> {
             _ if is_numeric(plain.as_str()) || plain.as_str().contains("\\-") => None,
             _ => return self.output.push_rich(value.text()),
         };
-        let delimiter = self.scene.locale.page_range_delimiter();
+        let delimiter = self.range_delimiter(variable);
         let ranges = page_ranges(alloc, plain.as_str(), format, delimiter)?;
-        self.output.push_rich(&plain_value(alloc, ranges.as_str())?)
+        self.output
+            .push_rich(&in_place_of(alloc, value.text(), ranges.as_str())?)
     }
 }
 
-impl Walk<'_, '_> {
+impl<'s> Walk<'s, '_> {
     /// The form of ranges in the locator: that of pages is for pages alone.
     fn locator_range_format(&self) -> Option<PageRangeFormat> {
-        match &self.locator {
-            Some(locator) if locator.kind == LocatorType::Page => {
-                self.scene.style.options.page_range_format
+        if self.has_pages() {
+            self.scene.style.options.page_range_format
+        } else {
+            None
+        }
+    }
+
+    /// What stands between the numbers of a range: of pages, what the locale has for them.
+    fn range_delimiter(&self, variable: NumberVariable) -> &'s str {
+        match variable {
+            NumberVariable::Page => self.scene.locale.page_range_delimiter(),
+            NumberVariable::Locator if self.has_pages() => {
+                self.scene.locale.page_range_delimiter()
             }
-            _ => None,
+            _ => RANGE_DELIMITER,
+        }
+    }
+
+    /// Whether the locator is one of pages.
+    fn has_pages(&self) -> bool {
+        match &self.locator {
+            Some(locator) => locator.kind == LocatorType::Page,
+            None => false,
         }
     }
 }

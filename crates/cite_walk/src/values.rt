@@ -26,11 +26,37 @@ impl Value<'_> {
 ///
 /// Where memory is refused.
 pub fn plain_value(alloc: Global, text: &str) -> Result<RichText, AllocError> {
+    styled_value(alloc, text, RunStyle::PLAIN)
+}
+
+/// A text that stands in place of a value: with its markup where it is the same text, or where all
+/// of the value has one style.
+///
+/// # Errors
+///
+/// Where memory is refused.
+pub(crate) fn in_place_of(
+    alloc: Global,
+    value: &RichText,
+    text: &str,
+) -> Result<RichText, AllocError> {
+    if value.plain(alloc)?.as_str() == text {
+        return value.clone();
+    }
+    let style = match value.runs.as_slice() {
+        [only] => only.style,
+        _ => RunStyle::PLAIN,
+    };
+    styled_value(alloc, text, style)
+}
+
+/// A text of one style.
+fn styled_value(alloc: Global, text: &str, style: RunStyle) -> Result<RichText, AllocError> {
     let mut runs = Vec::new(alloc);
     if !text.is_empty() {
         runs.push(Run {
             text: String::from_str(alloc, text)?,
-            style: RunStyle::PLAIN,
+            style,
         })?;
     }
     Ok(RichText { runs })

@@ -34,6 +34,7 @@ pub fn write_cite<'s>(
         scene,
         cite,
         output: Output::new(alloc, language),
+        first_pieces: 0,
         frames: Vec::new(alloc),
         outermost: Frame::NEW,
         here: 0,
@@ -59,10 +60,14 @@ fn language_of(
     scene: &Scene<'_>,
     cite: &CiteFacts<'_>,
 ) -> Result<Language, AllocError> {
-    match cite.reference.text(TextVariable::Language) {
-        Some(language) => Ok(Language::of_tag(language.plain(alloc)?.as_str())),
-        None => Ok(scene.locale.language()),
+    let Some(language) = cite.reference.text(TextVariable::Language) else {
+        return Ok(scene.locale.language());
+    };
+    let tag = language.plain(alloc)?;
+    if tag.as_str().trim().is_empty() {
+        return Ok(scene.locale.language());
     }
+    Ok(Language::of_tag(tag.as_str()))
 }
 
 /// A walk through a program.
@@ -71,6 +76,8 @@ pub(crate) struct Walk<'s, 'c> {
     pub scene: Scene<'s>,
     pub cite: CiteFacts<'c>,
     pub output: Output<'s>,
+    /// How many pieces the first element of the layout has that has text; 0 before it.
+    first_pieces: usize,
     /// What was called in the groups, macros and substitutes that are open.
     frames: Vec<Frame>,
     /// The same of the layout.
@@ -108,6 +115,9 @@ impl<'s, 'c> Walk<'s, 'c> {
             self.here = self.next;
             self.next = self.next.saturating_add(1);
             self.take(step)?;
+            if self.first_pieces == 0 && self.output.depth() == 0 {
+                self.first_pieces = self.output.piece_count();
+            }
         }
         Ok(())
     }
@@ -116,6 +126,7 @@ impl<'s, 'c> Walk<'s, 'c> {
     fn written(self) -> Result<WrittenCite, AllocError> {
         let Walk {
             output,
+            first_pieces,
             names,
             first_forms,
             has_tested_disambiguate,
@@ -124,6 +135,7 @@ impl<'s, 'c> Walk<'s, 'c> {
         } = self;
         Ok(WrittenCite {
             pieces: output.finish()?,
+            first_pieces,
             names,
             first_forms,
             has_tested_disambiguate,

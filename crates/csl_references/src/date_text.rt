@@ -26,7 +26,7 @@ const YEAR_DIGITS: usize = 3;
 const MOST_DIGITS: usize = 9;
 
 /// The date that the text tells: EDTF, numbers (`1999-5-3`, `5/3/1999`) or English words, or a range
-/// of these by `–`, `-` or `/`; none where it tells none.
+/// of these by `–`, `-` or `/`, also within one year (`Jan-Feb 2020`); none where it tells none.
 pub(crate) fn date_of_text(text: &str) -> Option<DateReading> {
     let text = text.trim();
     if let Some(reading) = edtf_date(text) {
@@ -42,7 +42,25 @@ pub(crate) fn date_of_text(text: &str) -> Option<DateReading> {
 
 fn range_of(text: &str, dash: char) -> Option<DateReading> {
     let (first, last) = text.split_once(dash)?;
-    Some(between(point_of(first.trim())?, point_of(last.trim())?))
+    let first = first.trim();
+    let last = point_of(last.trim())?;
+    let first = point_of(first).or(point_in(first, &last.date))?;
+    Some(between(first, last))
+}
+
+/// A month or a season alone, which is in the year of another one.
+fn point_in(name: &str, other: &PartialDate) -> Option<Point> {
+    if other.part.is_none() {
+        return None;
+    }
+    Some(Point {
+        date: PartialDate {
+            year: other.year,
+            part: Some(part_named(name)?),
+        },
+        is_uncertain: false,
+        is_whole: true,
+    })
 }
 
 fn point_of(text: &str) -> Option<Point> {

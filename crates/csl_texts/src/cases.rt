@@ -26,9 +26,12 @@ impl Language {
     }
 }
 
-/// What a tag begins with: `en` of `en-GB`.
+/// What a tag begins with: `en` of `en-GB`. Words may follow the tag, as in `en English`.
 pub(crate) fn primary_language(tag: &str) -> &str {
-    tag.split(|c| c == '-' || c == '_').next().unwrap_or("")
+    tag.trim_start()
+        .split(|c: char| !c.is_ascii_alphanumeric())
+        .next()
+        .unwrap_or("")
 }
 
 /// A part of a text, by its bytes.
