@@ -66,6 +66,7 @@ YEAR = '<date variable="issued"><date-part name="year"/></date>'
 TEXT = '<text variable="title"/>'
 LOCATED = '<group delimiter=" "><label variable="locator" form="short"/><text variable="locator"/></group>'
 AUTHOR_YEAR = '<group delimiter=" ">' + names('form="short" and="text"') + YEAR + '</group>'
+LETTERS = ['Ernst', 'Əliyev', 'Faber', 'Галаган', 'Ежов', 'Єсенін', 'Жук', 'Иванов', 'Іванов', 'Йосип', 'بیت', 'پور', 'کار', 'گل', 'لاله', 'یار']
 COLLATED = ['role', 'Role', 'rôle', 'roles', 'Smith Zed', 'Smithson Al']
 CHINESE = [{'id': id, 'type': 'book', 'author': [{'family': it[0], 'given': it[1:]} for it in names]}
            for id, names in (('two', ['王小明', '李四']), ('three', ['王小明', '李四', '张三']))]
@@ -83,6 +84,11 @@ CASES = [
     cite('formatting of names that stand in', 'Substitute: `names` without children are those around them, with other variables',
          '<names variable="author" font-weight="bold" suffix="!"><name form="short"/><substitute><names variable="editor"/></substitute></names>',
          [EDITED], ['<b>Moe, Poe</b>!'], to='html'),
+    cite('affixes around what stands in', 'pandoc: what stands in for names is the output of their element, between its affixes and in its '
+         'formatting',
+         '<names variable="author" font-weight="bold" prefix="{" suffix="}"><name form="short"/><label form="short" prefix=" (" suffix=")"/>'
+         '<substitute><names variable="editor"/><text variable="title"/></substitute></names>', [EDITED, PAGE],
+         ['{<b>Moe, Poe (eds.)</b>}', '{<b>Nobody</b>}'], [cites('edited'), cites('page')], to='html'),
     cite('two names', 'Name: `and`, `delimiter-precedes-last` is `contextual`: no comma of two', names('and="text"'),
          [several('a', 2000, 'Ape', 'Bee')], ['Ax Ape and Bx Bee']),
     cite('three names', 'Name: `contextual` has a delimiter before the last of three', names('and="text"'),
@@ -148,6 +154,9 @@ CASES = [
     cite('editor and translator', 'Names: where both variables have the same names, these are written once, with the term for both',
          '<names variable="editor translator" delimiter="; "><name form="short"/><label form="short" prefix=", "/></names>',
          [{**PAGE, 'editor': [{'family': 'Moe'}], 'translator': [{'family': 'Moe'}]}], ['Moe, ed. & tran.']),
+    cite('affixes of each name', 'Name: it tells how individual names are formatted; pandoc: its affixes and its formatting are those of each',
+         names('prefix="[" suffix="]" font-style="italic" and="text" form="short"'), [several('a', 2000, 'Ape', 'Bee')],
+         ['[<i>Ape</i>] and [<i>Bee</i>]'], to='html'),
     cite('names of other scripts', 'Name: names in Asian scripts have the family name first, in either order',
          '<group delimiter=" / ">' + names('delimiter="; "') + names('delimiter="; " name-as-sort-order="all"') + '</group>',
          [{**PAGE, 'author': [{'family': '毛', 'given': '泽东'}, {'family': 'Roe', 'given': 'Jane'}]}],
@@ -166,6 +175,11 @@ CASES = [
          [{**PAGE, 'editor': [{'family': 'Moe'}], 'translator': [{'family': 'Moe'}]}], ['Moe (ed. & tran.). Nobody']),
     cite('initials behind a space', 'pandoc, citeproc-js: a hyphen behind a space makes a compound name', names('initialize-with="."'),
          [person('a', 'Sartre', 'J. -P.', 1943)], ['J.-P. Sartre']),
+    cite('initials in markup', 'citeproc-js: the mark of an initial stands in the markup of the name', names('initialize-with=". "'),
+         [person('a', '<b>Doe</b>', '<b>John</b> Quincy', 1943), person('b', 'Doe', '<b>J</b>-Q', 1944)],
+         ['<b>J.</b> Q. <b>Doe</b>', '<b>J.</b>-Q. Doe'], [cites('a'), cites('b')], to='html'),
+    cite('initials behind a particle', 'pandoc, citeproc-js: of a name that a hyphen joins to a particle stands the initial',
+         names('initialize-with=". "'), [person('a', 'Haddad', 'Abd al-Karim', 1943)], ['A. al-K. Haddad']),
     cite('a given name alone', 'citeproc-js: a given name that stands alone is not parted', names(),
          [{**PAGE, 'author': [{'given': 'Sting, Jr.'}]}], ['Sting, Jr.']),
     # Numbers, labels, terms
@@ -194,6 +208,8 @@ CASES = [
          [[{'id': 'book', 'locator': 'vol. v'}]]),
     cite('a locator of words', 'Locators: an entry of a dictionary', LOCATED, [BOOK], ['s.v. note taking'],
          [[{'id': 'book', 'locator': 'note taking', 'label': 'sub-verbo'}]]),
+    cite('a locator of words that begin with a term', 'citeproc-js: words that count nothing are no label', LOCATED, [BOOK],
+         ['p. table of contents', 'app. B'], [[{'id': 'book', 'locator': 'table of contents'}], [{'id': 'book', 'locator': 'appendix B'}]]),
     cite('spaces around a locator', 'docs/WRITER.md, Numbers', TEXT + '<text variable="locator" prefix=":"/>', [PAGE], ['Nobody:13'],
          [[{'id': 'page', 'locator': ' 13 '}]]),
     cite('a numeric locator', 'Choose: `is-numeric` of a locator behind its label',
@@ -298,6 +314,8 @@ CASES = [
          [{**PAGE, 'title': 'PLOS ONE'}], ['PLOS ONE']),
     cite('a compound', 'citeproc-js: in running text a small word before a hyphen has a capital', '<text variable="title" text-case="title"/>',
          [{**PAGE, 'title': 'effects of in-vivo tests'}], ['Effects of In-Vivo Tests']),
+    cite('a small word in capitals', 'pandoc, citeproc-js: `title` leaves the capital that a small word has', '<text variable="title" text-case="title"/>',
+         [{**PAGE, 'title': 'Gone With the wind'}], ['Gone With the Wind']),
     cite('an article alone', 'Text-case: `sentence`: words with a capital lose it', '<text variable="title" text-case="sentence"/>',
          [{**PAGE, 'title': 'Once Upon A Time'}], ['Once upon a time']),
     cite('a tag and words', 'Title Case Conversion: an item whose language begins with the tag `en` is English; one without a language '
@@ -353,6 +371,8 @@ CASES = [
     item('accents of other languages', 'Unicode’s root collation: elsewhere they are letters with accents', TEXT,
          [{**PAGE, 'id': it, 'title': it} for it in ('Zola', 'Öberg', 'Mann', 'Åberg')], ['Åberg', 'Mann', 'Öberg', 'Zola'],
          bibliography_sort='<sort><key variable="title"/></sort>'),
+    item('letters of other alphabets', 'pandoc, Unicode’s root collation: Azerbaijani, Ukrainian and Persian letters', TEXT,
+         [{**PAGE, 'id': it, 'title': it} for it in reversed(LETTERS)], LETTERS, bibliography_sort='<sort><key variable="title"/></sort>'),
     item('marks of a transliteration', 'pandoc, citeproc-js: primes and the okina are passed over', TEXT,
          [{**PAGE, 'id': it, 'title': it} for it in ('Mann', 'ʻIolani', 'Grigorz', 'Grigorʹev')],
          ['Grigorʹev', 'Grigorz', 'ʻIolani', 'Mann'], bibliography_sort='<sort><key variable="title"/></sort>'),
@@ -477,8 +497,12 @@ CASES = [
          [[{'id': 'page', 'prefix': '<i>cf.</i>'}]], to='html'),
     cite('a suffix in markup or in brackets', 'citeproc-js: a space before a `suffix`', TEXT, [PAGE], ['Nobody <i>sic</i>', 'Nobody (sic)'],
          [[{'id': 'page', 'suffix': '<i>sic</i>'}], [{'id': 'page', 'suffix': '(sic)'}]], to='html'),
+    cite('a prefix in brackets', 'citeproc-js: a space behind a `prefix` that ends in a bracket', TEXT, [PAGE], ['(cf.) Nobody', '[sic] Nobody'],
+         [[{'id': 'page', 'prefix': '(cf.)'}], [{'id': 'page', 'prefix': '[sic]'}]]),
     cite('a prefix that begins with a mark', 'pandoc, citeproc-js: it takes the place of the delimiter', TEXT, [PAGE, BOOK],
          ['Nobody, the art of rivers'], [[{'id': 'page'}, {'id': 'book', 'prefix': ', '}]], affixes='delimiter="; "'),
+    Case('names with a prefix', 'Namespacing: the elements of CSL may have the prefix `cs`',
+         style(TEXT).replace('<', '<cs:').replace('<cs:/', '</cs:').replace('xmlns=', 'xmlns:cs='), [PAGE], ['Nobody'], [cites('page')]),
     cite('a hidden cite', 'docs/WRITER.md: `hidden`', TEXT, [PAGE, BOOK], ['the art of rivers'],
          [[{'id': 'page', 'hidden': True}, {'id': 'book'}]]),
 ]

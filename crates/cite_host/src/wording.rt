@@ -95,7 +95,7 @@ pub(crate) fn with_affixes(
 }
 
 fn needs_space_behind(last: char) -> bool {
-    last.is_alphanumeric() || matches!(last, '.' | ',' | ';' | ':' | '!' | '?')
+    last.is_alphanumeric() || matches!(last, '.' | ',' | ';' | ':' | '!' | '?' | ')' | ']')
 }
 
 fn needs_space_before(first: char) -> bool {

@@ -28,6 +28,8 @@ pub struct NameWords<'l> {
 pub struct NameList<'s, 'l> {
     pub rules: NameRules<'s>,
     pub words: NameWords<'l>,
+    /// What stands around each name: its affixes and its formatting.
+    pub setting: Element<'s>,
     /// The formatting of what stands for names that are cut.
     pub et_al_formatting: Option<Formatting>,
     pub variable: NameVariable,
@@ -180,7 +182,7 @@ impl<'s> NameList<'s, '_> {
         };
         output.open(Element {
             mark: Some(Mark::Name(self.variable, place)),
-            ..Element::PLAIN
+            ..self.setting
         })?;
         let mut affixed = PartRole::Between;
         output.open(self.affixes_of(affixed))?;

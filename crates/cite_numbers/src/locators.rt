@@ -149,20 +149,30 @@ struct Longest {
 }
 
 impl Longest {
-    /// Takes these words where the text begins with them, no letter or digit of a word is behind
-    /// them, and they are longer.
+    /// Takes these words where the text begins with them, what is behind them is no more of a word,
+    /// and behind a word counts something, and they are longer.
     fn meet(&mut self, text: &str, words: &str, label: LocatorType) {
         let Some(behind) = text.strip_prefix(words) else {
             return;
         };
         let is_word = words.ends_with(|c: char| c.is_alphabetic());
-        let is_cut = is_word && behind.starts_with(|c: char| c.is_alphanumeric());
+        let is_cut = is_word
+            && (behind.starts_with(|c: char| c.is_alphanumeric()) || !begins_with_count(behind));
         let is_last = behind.trim().is_empty();
         if words.len() > self.len && !is_cut && !is_last {
             self.len = words.len();
             self.label = Some(label);
         }
     }
+}
+
+/// Whether what stands behind a word counts something: it is not so with `table of contents`.
+fn begins_with_count(text: &str) -> bool {
+    let first = text.split_whitespace().next().unwrap_or("");
+    first.chars().any(|c| c.is_numeric())
+        || first.starts_with(|c: char| c.is_uppercase())
+        || first.chars().all(|c| "ivxlcdm".contains(c))
+        || first.chars().count() == 1
 }
 
 /// Abbreviations of locator types that are in use in any language.

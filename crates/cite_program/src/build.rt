@@ -3,7 +3,7 @@ use crate::program::{MOST_STEPS, NamesInUse, Program, ProgramError, Step};
 use std::alloc::{AllocError, Global};
 use style_file::choose::{Branch, Choose};
 use style_file::element::{RenderingElement, Text, TextSource};
-use style_file::formatting::{Affixes, Formatting};
+use style_file::formatting::Formatting;
 use style_file::names::Names;
 use style_file::style::Macro;
 
@@ -99,7 +99,7 @@ impl<'s> Builder<'s> {
                 [first, rest @ ..] => {
                     self.put_off(Pending::Substitutes(rest, names, names_at))?;
                     self.put_off(Pending::Step(Step::CloseSubstitute { names_at }))?;
-                    self.add_step(Step::OpenSubstitute)?;
+                    self.add_step(Step::OpenSubstitute { names_at })?;
                     self.add_element(first, Some(names))
                 }
                 [] => Ok(()),
@@ -253,11 +253,6 @@ fn names_in_use<'s>(names: &'s Names, around: Option<NamesInUse<'s>>) -> NamesIn
             et_al: outer.et_al,
             label: outer.label,
             delimiter: own.delimiter.or(outer.delimiter),
-            affixes: if is_unaffixed(own.affixes) {
-                outer.affixes
-            } else {
-                own.affixes
-            },
             formatting: over(outer.formatting, own.formatting),
             ..own
         },
@@ -287,8 +282,4 @@ fn is_bare(names: &Names) -> bool {
         && names.et_al.is_none()
         && names.label.is_none()
         && names.substitute.is_empty()
-}
-
-fn is_unaffixed(affixes: &Affixes) -> bool {
-    affixes.prefix.is_empty() && affixes.suffix.is_empty()
 }

@@ -21,8 +21,10 @@ pub enum Step<'s> {
         names: usize,
         end: usize,
     },
-    /// An element begins that may stand in for names.
-    OpenSubstitute,
+    /// An element begins that may stand in for the names at this place among the steps.
+    OpenSubstitute {
+        names_at: usize,
+    },
     /// It ends. Where it has written something, the walk goes on at the `end` of the names at this
     /// place among the steps.
     CloseSubstitute {
@@ -51,7 +53,7 @@ pub enum Step<'s> {
 }
 
 /// An element `names` with what holds for it. One that stands in for other names and has no
-/// children has those of these (CSL 1.0.2, "Substitute").
+/// children has those of these (CSL 1.0.2, "Substitute"). The affixes of these stand around it.
 #[derive(Clone, Copy)]
 pub struct NamesInUse<'s> {
     pub variables: &'s [NameVariable],

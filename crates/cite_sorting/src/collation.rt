@@ -1,7 +1,7 @@
 //! The order of texts: letters, as the language has them in order, before accents before case,
 //! without regard to punctuation.
 use caseless::default_case_fold_str;
-use csl_texts::alphabets::{BEHIND, OwnLetter};
+use csl_texts::alphabets::{BEHIND, LETTERS_OF_ALL, OwnLetter};
 use std::alloc::{AllocError, Global};
 use unicode_normalization::char::is_combining_mark;
 use unicode_normalization::{to_nfc, to_nfd, to_nfkd};
@@ -81,16 +81,26 @@ impl CollationKey {
     }
 }
 
-/// A text in small letters, with a language's own letters as they are sorted.
+/// A text in small letters, with the letters of a language, and of all, as they are sorted.
 fn with_own_letters(alloc: Global, text: &str, own: &[OwnLetter]) -> Result<String, AllocError> {
     let mut out = String::new(alloc);
     for c in text.chars() {
-        match own.iter().find(|letter| letter.0 == c) {
-            Some(letter) => out.push_str(letter.1)?,
+        match letter_in(own, c).or(letter_in(LETTERS_OF_ALL, c)) {
+            Some(sorted) => out.push_str(sorted)?,
             None => out.push(c)?,
         }
     }
     Ok(out)
+}
+
+/// How a letter is sorted that is among these.
+fn letter_in(letters: &[OwnLetter], c: char) -> Option<&'static str> {
+    for (letter, sorted) in letters {
+        if *letter == c {
+            return Some(*sorted);
+        }
+    }
+    None
 }
 
 /// Whether a letter stands for a mark of a transliteration, as the prime or the okina, which is

@@ -189,13 +189,7 @@ impl<'s, 'c> Walk<'s, 'c> {
             mark,
             ..Element::PLAIN
         })?;
-        let name_element = match names.name {
-            Some(name) => element_with(&name.affixes, name.formatting),
-            None => Element::PLAIN,
-        };
-        self.output.open(name_element)?;
         list.push(self.alloc(), &mut self.output, block.names, forms)?;
-        self.output.close()?;
         self.output.close()?;
         self.write_names_label(names, block, LabelSide::Behind)?;
         self.output.close()?;
@@ -226,6 +220,10 @@ impl<'s, 'c> Walk<'s, 'c> {
                         .plain_term(et_al, TermForm::Long, false)
                         .unwrap_or(""),
                 },
+            },
+            setting: match names.name {
+                Some(name) => element_with(&name.affixes, name.formatting),
+                None => Element::PLAIN,
             },
             et_al_formatting: names.et_al.map(|et_al| et_al.formatting),
             variable: self.told_variable(block.variable),

@@ -160,7 +160,7 @@ impl<'s, 'c> Walk<'s, 'c> {
                 }
                 Ok(())
             }
-            Step::OpenSubstitute => self.open_substitute(),
+            Step::OpenSubstitute { names_at } => self.open_substitute(names_at),
             Step::CloseSubstitute { names_at } => self.close_substitute(names_at),
             Step::OpenGroup(group) => self.open(group_element(group)),
             Step::OpenMacro(text) => self.open(text_element(text)),
@@ -245,24 +245,41 @@ impl<'s, 'c> Walk<'s, 'c> {
         Ok(())
     }
 
-    /// Opens an element that may stand in for names. In an item it counts as a name of nobody, and
-    /// is replaced where it repeats.
-    fn open_substitute(&mut self) -> Result<(), AllocError> {
+    /// Opens an element that may stand in for the names at this place among the steps, in their
+    /// affixes and their formatting. In an item it counts as a name of nobody, and is replaced
+    /// where it repeats.
+    fn open_substitute(&mut self, names_at: usize) -> Result<(), AllocError> {
+        let around = self.setting_of(names_at);
         let inside = self.scene.program.steps.get(self.here.saturating_add(1));
         let is_names = matches!(inside, Some(Step::Names { .. }));
         if is_names || !matches!(self.scene.kind, SceneKind::Item) {
             self.open(Element {
                 mark: if is_names { None } else { self.author_mark() },
-                ..Element::PLAIN
+                ..around
             })?;
             return self.output.open(Element::PLAIN);
         }
         let alloc = self.alloc();
         let mark = Mark::Names(self.names.len());
         self.names.push(Seq::new(Vec::new(alloc)))?;
-        self.open(marked(mark))?;
+        self.open(Element {
+            mark: Some(mark),
+            ..around
+        })?;
         self.output
             .open(marked(Mark::Name(NameVariable::Author, 0)))
+    }
+
+    /// An element with the affixes and the formatting of the names at this place among the steps.
+    fn setting_of(&self, names_at: usize) -> Element<'s> {
+        let names = match self.scene.program.steps.get(names_at) {
+            Some(Step::Names { names, .. }) => self.scene.program.names.get(*names),
+            _ => None,
+        };
+        match names {
+            Some(names) => element_with(names.affixes, names.formatting),
+            None => Element::PLAIN,
+        }
     }
 
     /// What marks, in a cite, all that is written for names, or that stands in for them.

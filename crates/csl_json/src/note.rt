@@ -7,20 +7,34 @@ use crate::warning::WarningKind;
 use csl_references::name::Name;
 use csl_references::reference::Reference;
 use csl_references::rich_text::RichText;
+use csl_vocabulary::item_type::ItemType;
 use csl_vocabulary::variable::{NameVariable, TextVariable, Variable};
 use serde_json::Value;
 use std::alloc::{AllocError, Global};
 
-/// A variable that a line of a note names, and the value that it has there.
+/// What a line of a note names, and the value that it has there.
 #[derive(Clone, Copy)]
 struct NoteLine<'t> {
-    variable: Variable,
+    named: Named,
     value: &'t str,
+    /// The line as it stands.
+    whole: &'t str,
+}
+
+/// What a line of a note names.
+#[derive(Clone, Copy)]
+enum Named {
+    Variable(Variable),
+    /// The type of the item.
+    Type(ItemType),
+    /// Nothing that is known.
+    Nothing,
 }
 
 impl Reader {
-    /// Takes the variables that stand at the beginning of an item's note out of it. What an item
-    /// has under a key of its own stays.
+    /// Takes the type and the variables that stand at the beginning of an item's note out of it.
+    /// What an item has under a key of its own stays, but for its type and its dates. Lines that
+    /// name something else stay in the note.
     pub(crate) fn take_note(
         &mut self,
         place: &Place,
@@ -31,46 +45,60 @@ impl Reader {
             return Ok(());
         };
         let (lines, rest) = lines_of(self.alloc, note.as_str())?;
-        if lines.is_empty() {
+        if lines
+            .iter()
+            .all(|line| matches!(line.named, Named::Nothing))
+        {
             return Ok(());
         }
+        let place = place.member("note");
         let mut names = Vec::new(self.alloc);
+        let mut left = String::new(self.alloc);
         for line in &lines {
-            self.take_line(&place.member("note"), *line, reference, &mut names)?;
+            match line.named {
+                Named::Variable(variable) => {
+                    self.take_value(&place, variable, line.value, reference, &mut names)?;
+                }
+                Named::Type(item_type) => reference.item_type = item_type,
+                Named::Nothing => left.push_str(line.whole)?,
+            }
         }
         reference.names.append(&mut names)?;
-        set_note(reference, self.of_markup(rest.trim())?)
+        left.push_str(rest)?;
+        set_note(reference, self.of_markup(left.as_str().trim())?)
     }
 
-    /// Takes what a line says.
-    fn take_line(
+    /// Takes the value that a line has of a variable.
+    fn take_value(
         &mut self,
         place: &Place,
-        line: NoteLine<'_>,
+        variable: Variable,
+        value: &str,
         reference: &mut Reference,
         names: &mut Vec<(NameVariable, Vec<Name>)>,
     ) -> Result<(), AllocError> {
-        if has(reference, line.variable) {
+        if has(reference, variable) {
             return self.warn(place, WarningKind::NotedTwice);
         }
-        match line.variable {
+        match variable {
             Variable::Text(variable) => {
-                if let Some(text) = self.of_markup(line.value)? {
+                if let Some(text) = self.of_markup(value)? {
                     reference.texts.push((variable, text))?;
                 }
             }
             Variable::Number(variable) => {
-                if let Some(text) = self.of_markup(line.value)? {
+                if let Some(text) = self.of_markup(value)? {
                     reference.numbers.push((variable, text))?;
                 }
             }
             Variable::Date(variable) => {
-                if let Some(date) = self.date_of_text(place, line.value)? {
+                if let Some(date) = self.date_of_text(place, value)? {
+                    reference.dates.retain(|pair| pair.0 != variable);
                     reference.dates.push((variable, date))?;
                 }
             }
             Variable::Name(variable) => {
-                let name = name_in_note(self.alloc, line.value)?;
+                let name = name_in_note(self.alloc, value)?;
                 add_name(self.alloc, names, variable, name)?;
             }
         }
@@ -100,30 +128,53 @@ fn first_line(note: &str) -> Option<(NoteLine<'_>, &str)> {
         Some(inner) => inner.split_once('}')?,
         None => note.split_once('\n').unwrap_or((note, "")),
     };
-    Some((note_line(line)?, behind))
+    let whole = note.strip_suffix(behind).unwrap_or(note);
+    Some((note_line(line, whole)?, behind))
 }
 
-/// What `name: value` says of a variable; none where the value is empty, or no variable has the
-/// name.
-fn note_line(line: &str) -> Option<NoteLine<'_>> {
+/// What `name: value` says; none where the value is empty, or what stands before it is no name.
+fn note_line<'t>(line: &'t str, whole: &'t str) -> Option<NoteLine<'t>> {
     let (name, value) = line.trim().split_once(':')?;
     let value = value.trim();
+    if value.is_empty() {
+        return None;
+    }
+    Some(NoteLine {
+        named: named_by(name, value)?,
+        value,
+        whole,
+    })
+}
+
+/// What a name stands for before this value; none of what is no name.
+fn named_by(name: &str, value: &str) -> Option<Named> {
     match key_named(name) {
-        Some(Key::Variable(variable) | Key::Older(variable)) if !value.is_empty() => {
-            Some(NoteLine { variable, value })
-        }
-        _ => None,
+        Some(Key::Variable(variable) | Key::Older(variable)) => Some(Named::Variable(variable)),
+        _ if !is_name(name) => None,
+        _ if name == "type" => Some(match ItemType::of_name(value) {
+            Some(item_type) => Named::Type(item_type),
+            None => Named::Nothing,
+        }),
+        _ => Some(Named::Nothing),
     }
 }
 
-/// Whether the reference has a value of the variable.
+/// Whether a text may be the name of a variable.
+fn is_name(text: &str) -> bool {
+    !text.is_empty()
+        && text
+            .chars()
+            .all(|c| c.is_ascii_alphabetic() || matches!(c, '-' | '_'))
+}
+
+/// Whether the reference has a value of the variable that stays. A date of the note goes before it.
 fn has(reference: &Reference, variable: Variable) -> bool {
     match variable {
         // the note itself is what is read
         Variable::Text(TextVariable::Note) => true,
         Variable::Text(variable) => reference.text(variable).is_some(),
         Variable::Number(variable) => reference.number(variable).is_some(),
-        Variable::Date(variable) => reference.date(variable).is_some(),
+        Variable::Date(_) => false,
         Variable::Name(variable) => reference.names(variable).is_some(),
     }
 }

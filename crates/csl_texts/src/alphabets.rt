@@ -8,7 +8,8 @@ pub const BEHIND: char = '\u{e000}';
 pub type OwnLetter = (char, &'static str);
 
 /// The letters that the language of a tag, as `sv-SE`, sorts behind another letter, and not as that
-/// with an accent. Letters of two characters, as the Czech `ch`, aren't among them.
+/// with an accent. Letters of two characters, as the Czech `ch`, aren't among them, nor are those
+/// that any language sorts so (`LETTERS_OF_ALL`).
 pub fn own_letters(tag: &str) -> &'static [OwnLetter] {
     let language = primary_language(tag);
     for (languages, letters) in ALPHABETS {
@@ -19,11 +20,32 @@ pub fn own_letters(tag: &str) -> &'static [OwnLetter] {
             return *letters;
         }
     }
-    IN_OTHER_LANGUAGES
+    &[]
 }
 
-/// The letters of all languages that have no letters of their own here.
-const IN_OTHER_LANGUAGES: &[OwnLetter] = &[('й', "и\u{e000}")];
+/// Letters that any language sorts behind another one, as Unicode's root collation has them.
+pub const LETTERS_OF_ALL: &[OwnLetter] = &[
+    ('ə', "e\u{e000}"),
+    ('ŋ', "n\u{e000}"),
+    ('ґ', "г\u{321}"),
+    ('ђ', "д\u{e000}"),
+    ('є', "е\u{e000}"),
+    ('і', "и\u{e000}a"),
+    ('ї', "и\u{e000}a\u{308}"),
+    ('й', "и\u{e000}b"),
+    ('ј', "и\u{e000}c"),
+    ('қ', "к\u{e000}"),
+    ('љ', "л\u{e000}"),
+    ('њ', "н\u{e000}"),
+    ('ћ', "т\u{e000}"),
+    ('џ', "ч\u{e000}"),
+    ('پ', "ب\u{e000}"),
+    ('چ', "ج\u{e000}"),
+    ('ژ', "ز\u{e000}"),
+    ('ک', "ك\u{e000}a"),
+    ('گ', "ك\u{e000}b"),
+    ('ی', "ي\u{e000}"),
+];
 
 /// The letters of languages.
 const ALPHABETS: &[(&[&str], &[OwnLetter])] = &[

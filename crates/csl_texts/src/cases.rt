@@ -229,8 +229,8 @@ impl<'a> Planned<'a> {
 
     /// Each word begins with a capital but stop words, which do only as the first or last word,
     /// behind a colon, an exclamation mark or a question mark, and in front of a compound, as in
-    /// `In-Depth`. A capital that a stop word has is lost in running text alone, and not behind a
-    /// quote or a bracket. A text in capitals stays.
+    /// `In-Depth`. A stop word that has a capital keeps it, as with pandoc and citeproc-js. A text
+    /// in capitals stays.
     fn push_word_of_title(&mut self, word: Word, position: Position) -> Result<(), AllocError> {
         if position.is_shouted {
             return Ok(());
@@ -241,12 +241,10 @@ impl<'a> Planned<'a> {
             || word.gap == Gap::Sentence
             || self.begins_compound(word);
         let is_small = is_stop_word(letters) && !is_set_off;
-        if !is_small && !is_lone_greek(letters) {
-            self.capitalize(word.span)
-        } else if is_small && word.gap == Gap::Running && is_capitalized(letters) {
-            self.lower(word.span)
-        } else {
+        if is_small || is_lone_greek(letters) {
             Ok(())
+        } else {
+            self.capitalize(word.span)
         }
     }
 

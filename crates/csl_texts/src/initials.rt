@@ -14,8 +14,10 @@ pub struct Initials<'a> {
 }
 
 /// Given names as initials: `Jean-Luc` is `J.-L.` with the mark `.`. A word without a capital in
-/// front stays, as particles do, and so does one of a script without case. What ends in a period is
-/// an initial already, however long it is, and so is a single capital.
+/// front stays, as particles do, and so does one of a script without case; of `al-Karim` the
+/// particle stays, and the name becomes an initial. What ends in a period is an initial already,
+/// however long it is, and so is a single capital. Tags of markup without spaces stay around what
+/// stands in them: `<b>Jean</b>` is `<b>J.</b>`.
 ///
 /// # Errors
 ///
@@ -43,11 +45,23 @@ struct ShortNames<'a> {
 
 impl ShortNames<'_> {
     fn push_word(&mut self, word: &str) -> Result<(), AllocError> {
-        if self.how.shortens && !has_capital_first(word.trim_start_matches('-')) {
-            return self.push_kept(word, false);
+        let inside = tagged(word.trim_start_matches('-')).name;
+        if self.how.shortens && !has_capital_first(inside) {
+            return match split_particle(word) {
+                Some((particle, names)) => {
+                    self.push_kept(particle, false)?;
+                    self.push_names(names, true)
+                }
+                None => self.push_kept(word, false),
+            };
         }
-        for (place, part) in word.split('-').enumerate() {
-            let mut is_compound = place > 0;
+        self.push_names(word, false)
+    }
+
+    /// Adds names with hyphens between them; `is_behind`: with a hyphen before them.
+    fn push_names(&mut self, names: &str, is_behind: bool) -> Result<(), AllocError> {
+        for (place, part) in names.split('-').enumerate() {
+            let mut is_compound = is_behind || place > 0;
             for name in part.split_inclusive('.') {
                 self.push_name(name, is_compound)?;
                 is_compound = false;
@@ -58,24 +72,27 @@ impl ShortNames<'_> {
 
     /// Adds a name with or without a period behind it; `is_compound`: with a hyphen before it.
     fn push_name(&mut self, name: &str, is_compound: bool) -> Result<(), AllocError> {
-        let letters = name.trim_end_matches('.');
+        let tagged = tagged(name);
+        let letters = tagged.name.trim_end_matches('.');
         if letters.is_empty() {
-            return Ok(());
+            self.text.push_str(tagged.before)?;
+            return self.text.push_str(tagged.behind);
         }
-        if letters.len() < name.len() || is_single_capital(letters) {
+        let is_initial = letters.len() < tagged.name.len() || is_single_capital(letters);
+        if is_initial || (self.how.shortens && has_capital_first(letters)) {
             self.push_gap(is_compound)?;
-            self.text.push_str(letters)?;
-            self.push_mark()
-        } else if !self.how.shortens {
-            self.push_kept(letters, is_compound)
-        } else if has_capital_first(letters) {
-            self.push_gap(is_compound)?;
-            push_first_letters(&mut self.text, letters)?;
-            self.push_mark()
-        } else if is_compound {
+            self.text.push_str(tagged.before)?;
+            if is_initial {
+                self.text.push_str(letters)?;
+            } else {
+                push_first_letters(&mut self.text, letters)?;
+            }
+            self.push_mark()?;
+            self.text.push_str(tagged.behind)
+        } else if self.how.shortens && is_compound {
             Ok(())
         } else {
-            self.push_kept(letters, false)
+            self.push_kept(name, is_compound)
         }
     }
 
@@ -106,6 +123,42 @@ impl ShortNames<'_> {
         }
         self.gap = " ";
         self.text.push_str(word)
+    }
+}
+
+/// A name between tags of markup.
+#[derive(Clone, Copy)]
+struct Tagged<'n> {
+    before: &'n str,
+    name: &'n str,
+    behind: &'n str,
+}
+
+/// A name without the tags that stand before it, and those that stand behind it.
+fn tagged(text: &str) -> Tagged<'_> {
+    let mut inside = text;
+    for _ in 0..text.len() {
+        match inside.strip_prefix('<').and_then(|tag| tag.split_once('>')) {
+            Some((_, behind)) => inside = behind,
+            None => break,
+        }
+    }
+    let name = inside.split('<').next().unwrap_or(inside);
+    Tagged {
+        before: text.strip_suffix(inside).unwrap_or(""),
+        name,
+        behind: inside.strip_prefix(name).unwrap_or(""),
+    }
+}
+
+/// The particle in front of a word, and the names behind its hyphen, as in `al-Karim`.
+fn split_particle(word: &str) -> Option<(&str, &str)> {
+    let (particle, names) = word.split_once('-')?;
+    let is_particle = !particle.is_empty() && particle.chars().all(|c| c.is_lowercase());
+    if is_particle && has_capital_first(names) {
+        Some((particle, names))
+    } else {
+        None
     }
 }
 

@@ -7,10 +7,19 @@ use xml_reader::tree::{Element, text_of};
 /// CSL's namespace.
 pub const NAMESPACE: &str = "http://purl.org/net/xbiblio/csl";
 
-/// The name of an element of CSL. That of an element of another namespace, which has a prefix or a
-/// default namespace of its own, is empty.
-pub fn csl_name(element: &Element) -> &str {
+/// The prefix that the specification of CSL writes before the names of its elements.
+const PREFIX: &str = "cs:";
+
+/// The name of an element without the prefix of CSL.
+pub fn local_name(element: &Element) -> &str {
     let name = element.name.as_str();
+    name.strip_prefix(PREFIX).unwrap_or(name)
+}
+
+/// The name of an element of CSL. That of an element of another namespace, which has another prefix
+/// or a default namespace of its own, is empty.
+pub fn csl_name(element: &Element) -> &str {
+    let name = local_name(element);
     let is_foreign = name.contains(':')
         || element
             .attribute("xmlns")

@@ -6,7 +6,7 @@ use crate::locale::locale_of;
 use crate::style::style_of;
 use std::alloc::Global;
 use style_elements::attributes::{attribute, needed};
-use style_elements::children::NAMESPACE;
+use style_elements::children::{NAMESPACE, local_name};
 use style_elements::macros::MacroTable;
 use style_elements::reading::Reading;
 use style_faults::error::StyleError;
@@ -111,7 +111,7 @@ fn with_warnings<T: Drop>(
 
 /// What the document with this root is.
 fn file_in(alloc: Global, root: &Element) -> Result<(CslFile, Vec<Note>), Stop> {
-    match root.name.as_str() {
+    match local_name(root) {
         "style" => {
             let (style, notes) = style_in(alloc, root)?;
             Ok((CslFile::Style(style), notes))
@@ -126,7 +126,7 @@ fn file_in(alloc: Global, root: &Element) -> Result<(CslFile, Vec<Note>), Stop> 
 
 /// The style with this root.
 fn style_in(alloc: Global, root: &Element) -> Result<(StyleFile, Vec<Note>), Stop> {
-    let name = root.name.as_str();
+    let name = local_name(root);
     if name != "style" {
         return Err(Stop::at(alloc, root.offset, name, Wanted::Root(Root::Style)));
     }
@@ -138,7 +138,7 @@ fn style_in(alloc: Global, root: &Element) -> Result<(StyleFile, Vec<Note>), Sto
 
 /// The locale file with this root.
 fn locale_in(alloc: Global, root: &Element) -> Result<(LocaleFile, Vec<Note>), Stop> {
-    let name = root.name.as_str();
+    let name = local_name(root);
     if name != "locale" {
         return Err(Stop::at(alloc, root.offset, name, Wanted::Root(Root::Locale)));
     }
@@ -173,7 +173,8 @@ fn check_root(root: &Element, reading: &mut Reading<'_>) -> Result<(), Stop> {
 }
 
 fn check_namespace(root: &Element, reading: &mut Reading<'_>) -> Result<(), Stop> {
-    let Some(namespace) = attribute(root, "xmlns") else {
+    let declared = attribute(root, "xmlns").or(attribute(root, "xmlns:cs"));
+    let Some(namespace) = declared else {
         return reading.note(root.offset, root.name.as_str(), Oddity::NoNamespace);
     };
     let found = namespace.value.as_str();
