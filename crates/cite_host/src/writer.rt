@@ -111,7 +111,7 @@ impl<'s, 'i, 'd> TaskWriter<'s, 'i, 'd> {
         let mut cite = write_cite(self.alloc, self.setting.cite_scene(), facts)?;
         let pieces = replace(&mut cite.pieces, Pieces::new(self.alloc));
         let pieces = for_purpose(self.alloc, asked.purpose, pieces)?;
-        cite.pieces = self.worded(asked, pieces)?;
+        cite.pieces = self.worded(asked, self.with_quotes_of_fields(pieces)?)?;
         if asked.shown.is_some() {
             leave_out_marks(self.alloc, &mut cite)?;
         }
@@ -158,6 +158,7 @@ impl<'s, 'i, 'd> TaskWriter<'s, 'i, 'd> {
         if bibliography.section.options.second_field_align.is_some() {
             pieces = pieces.with_first_marked(self.alloc, listed.first_pieces, FIRST_FIELD)?;
         }
+        pieces = self.with_quotes_of_fields(pieces)?;
         listed.pieces = self.in_layout(&bibliography.section.layout, pieces)?;
         self.told(listed, TextFormatting::NORMAL)
     }
@@ -177,6 +178,12 @@ impl<'s, 'i, 'd> TaskWriter<'s, 'i, 'd> {
         written(self.alloc, element, pieces, self.setting.locale.language())
     }
 
+    /// The stream of a cite or an item in which quotes of fields have their marks, before words of
+    /// others stand around it.
+    fn with_quotes_of_fields(&self, pieces: Pieces) -> Result<Pieces, AllocError> {
+        with_field_marks(self.alloc, pieces, self.setting.locale.quote_marks())
+    }
+
     /// What the driver is told of a cite in text of this formatting.
     fn told(&self, cite: WrittenCite, around: TextFormatting) -> Result<driver::Cite, AllocError> {
         let WrittenCite {
@@ -187,9 +194,8 @@ impl<'s, 'i, 'd> TaskWriter<'s, 'i, 'd> {
             has_tested_disambiguate,
             usage,
         } = cite;
-        let locale = self.setting.locale;
-        let pieces = with_field_marks(self.alloc, pieces, locale.quote_marks())?;
-        let pieces = punctuated(self.alloc, pieces, locale.has_punctuation_in_quotes())?;
+        let in_quotes = self.setting.locale.has_punctuation_in_quotes();
+        let pieces = punctuated(self.alloc, pieces, in_quotes)?;
         let first_name = match first_forms {
             Some(forms) => Some(NameDisambiguationProperties {
                 forms: Seq::new(forms),
