@@ -116,7 +116,7 @@ def plain(tree):
 def try_json(program):
     """Either command prints the whole answer as JSON."""
     italics = {'font_style': 'italic', 'font_weight': 'normal', 'font_variant': 'small-caps', 'text': 'C'}
-    items = [{'content': [italics], 'key': 'a'}]
+    items = [{'first_field': italics, 'content': [], 'key': 'a'}]
     listed = {'entry_spacing': 0, 'hanging_indent': False, 'items': items, 'line_spacing': 2, 'second_field_align': 'flush'}
     section = ('<bibliography line-spacing="2" entry-spacing="0" second-field-align="flush"><layout>'
                '<text variable="publisher" font-style="italic" font-variant="small-caps"/></layout></bibliography></style>')

@@ -145,10 +145,14 @@ fn item_text(
     let field = field.as_str();
     let content = content.as_str();
     match format {
+        OutputFormat::Html if content.is_empty() => {
+            format!(in alloc; "<div class=\"csl-left-margin\">{field}</div>")
+        }
         OutputFormat::Html => format!(in alloc;
             "<div class=\"csl-left-margin\">{field}</div>\
              <div class=\"csl-right-inline\">{content}</div>"
         ),
+        _ if content.is_empty() => String::from_str(alloc, field.trim_end()),
         _ => {
             let field = field.trim_end();
             format!(in alloc; "{field} {content}")

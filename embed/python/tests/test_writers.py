@@ -282,6 +282,12 @@ def test_displays_stand_where_html_lets_them():
             '<div class="csl-right-inline"><div class="csl-block">a</div>') in written
 
 
+def test_nothing_stands_beside_a_first_field_with_nothing_behind_it():
+    item = gamhilon.Item('k', [], {'children': [node('A.')]})
+    written = gamhilon.bibliography_to_html(gamhilon.Bibliography([item], False, 1, 1))
+    assert '<div class="csl-left-margin">A.</div>' in written and 'right-inline' not in written
+
+
 def test_markup_shows_its_letters_unless_the_caller_writes_it():
     tree = [{'markup': '<b>x</b>'}]
     assert gamhilon.to_html(tree) == '&lt;b&gt;x&lt;/b&gt;'

@@ -69,8 +69,8 @@ def _item(item: Item, markup: Escape) -> str:
     if item.first_field is None:
         return content
     first = _html(_addresses.with_links(pieces(item.first_field)), markup, 'div')
-    return (f'<div class="csl-left-margin">{first}</div>'
-            f'<div class="csl-right-inline">{content}</div>')
+    left = f'<div class="csl-left-margin">{first}</div>'
+    return f'{left}<div class="csl-right-inline">{content}</div>' if content else left
 
 
 def _html(parts: Sequence[Piece], markup: Escape, block: str) -> str:

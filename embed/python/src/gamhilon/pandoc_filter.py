@@ -311,7 +311,8 @@ class _Filter:
         first, rest = self.inlines(item.first_field), self.inlines(item.content)
         while first and first[-1] == SPACE:
             first.pop()
-        return [span(['csl-left-margin'], first), SPACE, span(['csl-right-inline'], rest)]
+        left = span(['csl-left-margin'], first)
+        return [left, SPACE, span(['csl-right-inline'], rest)] if rest else [left]
 
     def inlines(self, tree: Union[Tree, Node]) -> Inlines:
         """A part of an item, with its links or without any."""
