@@ -45,7 +45,7 @@ struct ShortNames<'a> {
 
 impl ShortNames<'_> {
     fn push_word(&mut self, word: &str) -> Result<(), AllocError> {
-        let inside = tagged(word.trim_start_matches('-')).name;
+        let inside = split_tags(word.trim_start_matches('-')).name;
         if self.how.shortens && !has_capital_first(inside) {
             return match split_particle(word) {
                 Some((particle, names)) => {
@@ -72,7 +72,7 @@ impl ShortNames<'_> {
 
     /// Adds a name with or without a period behind it; `is_compound`: with a hyphen before it.
     fn push_name(&mut self, name: &str, is_compound: bool) -> Result<(), AllocError> {
-        let tagged = tagged(name);
+        let tagged = split_tags(name);
         let letters = tagged.name.trim_end_matches('.');
         if letters.is_empty() {
             self.text.push_str(tagged.before)?;
@@ -135,7 +135,7 @@ struct Tagged<'n> {
 }
 
 /// A name without the tags that stand before it, and those that stand behind it.
-fn tagged(text: &str) -> Tagged<'_> {
+fn split_tags(text: &str) -> Tagged<'_> {
     let mut inside = text;
     for _ in 0..text.len() {
         match inside.strip_prefix('<').and_then(|tag| tag.split_once('>')) {
