@@ -35,8 +35,6 @@ def repeatable(row, note, rows):
     only = row[0]
     if only.note in (None, note):
         return only
-    if note is not None and note > only.note + 1:
-        return None
     in_that_note = [cite for other in rows for cite in other if cite.note == only.note]
     return None if any(cite.key != only.key for cite in in_that_note) else only
 

@@ -1,5 +1,5 @@
 -- Which cites repeat the one before them, in the final order of cites.
-use Rattle.std.specs.Prelude.{ℕ, zero, suc, Bool, false, true, not, ◌&&◌, ◌||◌, List, [], ◌∷◌, Option, None, Some, if◌then◌else◌, is_some, map, nat_eq, nat_lt, slice_get}
+use Rattle.std.specs.Prelude.{ℕ, zero, suc, Bool, true, not, ◌&&◌, ◌||◌, List, [], ◌∷◌, Option, None, Some, if◌then◌else◌, is_some, map, nat_eq, slice_get}
 use Rattle.std.specs.List.{enumerate_from, list_any}
 use Rattle.std.specs.Option.{option_and_then, option_eq, option_or}
 use Rattle.csl_notes.specs.declared.repeats.PlacedCite.{PlacedCite}
@@ -15,17 +15,12 @@ before_at xs (suc k) = slice_get xs k
 abbrev pub is_note : ℕ → Option ℕ → Bool
 is_note number note = option_eq nat_eq (Some number) note
 
--- another note stands between the note of this number and one behind it
-abbrev pub is_beyond : ℕ → Option ℕ → Bool
-is_beyond number None = false
-is_beyond number (Some note) = nat_lt (suc number) note
-
 -- the one cite of a request may be repeated by the request behind it: it stands in no note, or
--- the other one stands in the same, or no note stands between them and its own cites no other entry
+-- the other one stands in the same, or its note cites no other entry
 abbrev pub may_be_repeated : (ℕ → ℕ → Bool) → Option ℕ → Option ℕ → ℕ → Bool
 may_be_repeated cites_other None to entry = true
 may_be_repeated cites_other (Some number) to entry =
-    is_note number to || (not (is_beyond number to) && not (cites_other number entry))
+    is_note number to || not (cites_other number entry)
 
 module _ {L : Type 0} where
   -- some request in the note of this number cites another entry

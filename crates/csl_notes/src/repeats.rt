@@ -4,7 +4,7 @@ ghost use Rattle.std.specs.HashMap.{get};
 ghost use Rattle.std.specs.List.{list_any};
 ghost use Rattle.std.specs.Option.{option_and_then, option_copied};
 ghost use Rattle.csl_notes.specs.Noted.{AreNotesOf, is_other, noted_with};
-ghost use Rattle.csl_notes.specs.Repeats.{before_at, is_beyond, is_note, may_be_repeated, only_repeatable, position_behind, position_by, positions, positions_behind, repeatable};
+ghost use Rattle.csl_notes.specs.Repeats.{before_at, is_note, may_be_repeated, only_repeatable, position_behind, position_by, positions, positions_behind, repeatable};
 ghost use Rattle.csl_notes.specs.Requests.{Request, request_view, requests_view};
 
 use std::alloc::{AllocError, Global};
@@ -198,20 +198,8 @@ fn may_be_repeated(
     ensures { result ≡ may_be_repeated (λ n e. is_other e (get nat_eq noted.now n)) from to entry }
 {
     match from {
-        Some(number) => {
-            is_note(number, to) || !is_beyond(number, to) && !cites_other(noted, number, entry)
-        }
+        Some(number) => is_note(number, to) || !cites_other(noted, number, entry),
         None => true,
-    }
-}
-
-/// Whether another note stands between the note of this number and one behind it.
-fn is_beyond(number: usize, note: Option<usize>) -> bool
-    ensures { result ≡ is_beyond number note }
-{
-    match note {
-        Some(note) => number < note && number + 1 < note,
-        None => false,
     }
 }
 
