@@ -240,6 +240,14 @@ WARNED = {
     'text': (layout('¦<group> stray <text variable="title"/></group>'), 'text `stray` is read over'),
     'a version': (style(head=HEAD.replace('version="1.0"', '¦version="1.1mlz1"')), 'version `1.1mlz1` is read as 1.0'),
     'no version': ('¦' + style(head=HEAD.replace(' version="1.0"', '')), '`style` without a version is read as 1.0'),
+    'a namespace of a prefix alone': (
+        '¦' + style(head=HEAD.replace('xmlns=', 'xmlns:cs=')),
+        "`style` without a namespace is read as CSL's",
+    ),
+    'another namespace of a prefix alone': (
+        '¦' + style(head=HEAD.replace('xmlns="http://purl.org/net/xbiblio/csl"', 'xmlns:cs="urn:x"')),
+        "`style` without a namespace is read as CSL's",
+    ),
     'no namespace': (
         '¦' + style(head=HEAD.replace(' xmlns="http://purl.org/net/xbiblio/csl"', '')),
         "`style` without a namespace is read as CSL's",

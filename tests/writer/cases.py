@@ -64,6 +64,7 @@ def names(inside='', outer='', more=''):
 
 YEAR = '<date variable="issued"><date-part name="year"/></date>'
 TEXT = '<text variable="title"/>'
+PREFIXED = style(TEXT).replace('<', '<cs:').replace('<cs:/', '</cs:').replace('xmlns=', 'xmlns:cs=')
 LOCATED = '<group delimiter=" "><label variable="locator" form="short"/><text variable="locator"/></group>'
 AUTHOR_YEAR = '<group delimiter=" ">' + names('form="short" and="text"') + YEAR + '</group>'
 LETTERS = ['Ernst', 'Əliyev', 'Faber', 'Галаган', 'Ежов', 'Єсенін', 'Жук', 'Иванов', 'Іванов', 'Йосип', 'بیت', 'پور', 'کار', 'گل', 'لاله', 'یار']
@@ -474,6 +475,25 @@ CASES = [
     item('a first field alone', 'pandoc: nothing is set beside a first field with nothing behind it',
          '<text variable="title" suffix=". "/><text variable="publisher"/>', [PAGE],
          ['<div class="csl-left-margin">Nobody. </div>'], to='html', in_bibliography='second-field-align="flush"'),
+    item('a first field alone, in its layout', 'pandoc: the suffix of the layout stands with a first field that is all of an item',
+         '<text variable="title"/>', [PAGE], ['Nobody.'], in_bibliography='second-field-align="flush"', in_layout='suffix="."'),
+    cite('words of the style', 'docs/WRITER.md, Text cases: words of the style and the locale are in the language of the locale',
+         '<text value="edition" text-case="uppercase"/><text term="edition" text-case="uppercase" prefix=" "/>'
+         '<number variable="edition" form="long-ordinal" text-case="uppercase" prefix=" "/>',
+         [{**PAGE, 'language': 'tr', 'edition': '9'}], ['EDITION EDITION NINTH']),
+    cite('a setting around an author alone', 'docs/WRITER.md: all that stands in for names is what `author-only` shows',
+         '<names variable="author" font-weight="bold"><substitute><names variable="editor"><name form="short"/></names></substitute></names>',
+         [EDITED], ['<b>Moe, Poe</b>'], [[{'id': 'edited', 'author-only': True}]], to='html'),
+    cite('words in an author alone', 'docs/WRITER.md: all that stands in for names is what `author-only` shows',
+         names('form="short"', more='<substitute><text macro="edited"/></substitute>') + YEAR, [EDITED], ['edited by Moe, Poe'],
+         [[{'id': 'edited', 'author-only': True}]],
+         macros='<macro name="edited"><group delimiter=" "><text value="edited by"/><names variable="editor"><name form="short"/></names>'
+         '</group></macro>'),
+    cite('no date in affixes', 'Disambiguation: `year-suffix` is behind the words for no date, inside their affixes',
+         '<names variable="author"><name form="short"/></names><choose><if variable="issued"><date variable="issued" form="numeric"/></if>'
+         '<else><text term="no date" form="short" prefix=" [" suffix="]"/></else></choose>',
+         [{'id': it, 'type': 'book', 'title': it, 'author': [{'family': 'Roe', 'given': 'Ann'}]} for it in 'ab'],
+         ['Roe [n.d.a]', 'Roe [n.d.b]'], [cites('a'), cites('b')], in_citation='disambiguate-add-year-suffix="true"'),
     item('a first field alone, as text', 'pandoc: nothing is set beside a first field with nothing behind it',
          '<text variable="title" suffix=". "/><text variable="publisher"/>', [PAGE], ['Nobody.'],
          in_bibliography='second-field-align="flush"'),
@@ -508,7 +528,9 @@ CASES = [
     cite('a prefix that begins with a mark', 'pandoc, citeproc-js: it takes the place of the delimiter', TEXT, [PAGE, BOOK],
          ['Nobody, the art of rivers'], [[{'id': 'page'}, {'id': 'book', 'prefix': ', '}]], affixes='delimiter="; "'),
     Case('names with a prefix', 'Namespacing: the elements of CSL may have the prefix `cs`',
-         style(TEXT).replace('<', '<cs:').replace('<cs:/', '</cs:').replace('xmlns=', 'xmlns:cs='), [PAGE], ['Nobody'], [cites('page')]),
+         PREFIXED, [PAGE], ['Nobody'], [cites('page')]),
+    Case('names with a prefix in another language', 'Namespacing: the prefix tells the namespace of the elements of CSL',
+         PREFIXED.replace('xmlns:cs=', 'xmlns="http://www.w3.org/1999/xhtml" xmlns:cs='), [PAGE], ['Nobody'], [cites('page')]),
     cite('a hidden cite', 'docs/WRITER.md: `hidden`', TEXT, [PAGE, BOOK], ['the art of rivers'],
          [[{'id': 'page', 'hidden': True}, {'id': 'book'}]]),
 ]

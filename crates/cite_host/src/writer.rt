@@ -154,17 +154,36 @@ impl<'s, 'i, 'd> TaskWriter<'s, 'i, 'd> {
             return Ok(nothing(self.alloc));
         };
         let mut listed = write_cite(self.alloc, self.setting.item_scene(bibliography), facts)?;
-        let mut pieces = replace(&mut listed.pieces, Pieces::new(self.alloc));
-        if bibliography.section.options.second_field_align.is_some() {
-            pieces = pieces.with_first_marked(self.alloc, listed.first_pieces, FIRST_FIELD)?;
-        }
-        pieces = self.with_quotes_of_fields(pieces)?;
-        listed.pieces = self.in_layout(&bibliography.section.layout, pieces)?;
+        let pieces = replace(&mut listed.pieces, Pieces::new(self.alloc));
+        let layout = &bibliography.section.layout;
+        listed.pieces = if bibliography.section.options.second_field_align.is_some() {
+            self.with_first_field(layout, pieces, listed.first_pieces)?
+        } else {
+            self.in_layout(layout, pieces)?
+        };
         self.told(listed, TextFormatting::NORMAL)
     }
 
+    /// An item in its layout, of which so many pieces are the first field; with the affixes of the
+    /// layout where it has no other.
+    fn with_first_field(
+        &self,
+        layout: &Layout,
+        pieces: Pieces,
+        first_pieces: usize,
+    ) -> Result<Pieces, AllocError> {
+        if first_pieces < pieces.as_slice().len() {
+            let marked = pieces.with_first_marked(self.alloc, first_pieces, FIRST_FIELD)?;
+            return self.in_layout(layout, marked);
+        }
+        let item = self.in_layout(layout, pieces)?;
+        let all_pieces = item.as_slice().len();
+        item.with_first_marked(self.alloc, all_pieces, FIRST_FIELD)
+    }
+
     /// An item in the formatting and the affixes of its layout, where it has text.
-    fn in_layout(&self, layout: &Layout, pieces: Pieces) -> Result<Pieces, AllocError> {
+    fn in_layout(&self, layout: &Layout, item: Pieces) -> Result<Pieces, AllocError> {
+        let pieces = self.with_quotes_of_fields(item)?;
         if pieces.has_no_text() {
             return Ok(pieces);
         }

@@ -95,12 +95,10 @@ fn with_own_letters(alloc: Global, text: &str, own: &[OwnLetter]) -> Result<Stri
 
 /// How a letter is sorted that is among these.
 fn letter_in(letters: &[OwnLetter], c: char) -> Option<&'static str> {
-    for (letter, sorted) in letters {
-        if *letter == c {
-            return Some(*sorted);
-        }
-    }
-    None
+    letters
+        .iter()
+        .find(|letter| letter.0 == c)
+        .map(|letter| letter.1)
 }
 
 /// Whether a letter stands for a mark of a transliteration, as the prime or the okina, which is

@@ -13,7 +13,6 @@ use csl_base::entry::Person;
 use csl_base::names::DisambiguatedNameForm;
 use csl_base::seq::Seq;
 use csl_references::name::Name;
-use csl_texts::cases::Language;
 use csl_vocabulary::term::{PlainTerm, TermForm};
 use csl_vocabulary::variable::{NameVariable, Variable};
 use std::alloc::{AllocError, Global};
@@ -262,10 +261,20 @@ impl<'s, 'c> Walk<'s, 'c> {
             .locale
             .plain_term(block.term, label.options.form, is_plural)
             .unwrap_or("");
-        self.output.open(label_element(&label.options, self.scene.locale.language()))?;
+        self.output.open(self.label_element(&label.options))?;
         self.output.push_str(words)?;
         self.output.close()?;
         Ok(())
+    }
+
+    /// The element of a label, whose words are in the language of the locale.
+    pub(crate) fn label_element(&self, label: &'s LabelOptions) -> Element<'s> {
+        Element {
+            text_case: label.text_case,
+            language: Some(self.scene.locale.language()),
+            strips_periods: label.strip_periods,
+            ..element_with(&label.affixes, label.formatting)
+        }
     }
 
     fn names_element(&self, names: &NamesInUse<'s>) -> Element<'s> {
@@ -358,15 +367,5 @@ fn are_editor_and_translator(one: NameVariable, other: NameVariable) -> bool {
         (NameVariable::Editor, NameVariable::Translator)
         | (NameVariable::Translator, NameVariable::Editor) => true,
         _ => false,
-    }
-}
-
-/// The element of a label.
-pub(crate) fn label_element(label: &LabelOptions, language: Language) -> Element<'_> {
-    Element {
-        text_case: label.text_case,
-        language: Some(language),
-        strips_periods: label.strip_periods,
-        ..element_with(&label.affixes, label.formatting)
     }
 }

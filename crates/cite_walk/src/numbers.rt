@@ -1,16 +1,16 @@
 //! Numbers and their labels (CSL 1.0.2, "Number" and "Label").
 use crate::cite::SceneKind;
-use crate::names::label_element;
 use crate::sorted::sorted_number;
 use crate::values::in_place_of;
 use crate::walk::Walk;
 use cite_numbers::forms::number_text;
 use cite_numbers::plurals::is_plural;
 use cite_pieces::output::{Element, element_with};
+use csl_texts::cases::Language;
 use csl_vocabulary::term::PlainTerm;
 use csl_vocabulary::variable::{NumberVariable, Variable};
 use std::alloc::AllocError;
-use style_file::element::{Label, Number};
+use style_file::element::{Label, Number, NumberForm};
 
 impl<'s> Walk<'s, '_> {
     /// Writes a number. Of a cite that is cut to its suffix the locator stays.
@@ -40,6 +40,7 @@ impl<'s> Walk<'s, '_> {
         self.output.open(Element {
             display: number.display,
             text_case: number.text_case,
+            language: self.language_of_form(number.form),
             ..element_with(&number.affixes, number.formatting)
         })?;
         self.output
@@ -47,6 +48,14 @@ impl<'s> Walk<'s, '_> {
         self.output.close()?;
         self.output.close()?;
         Ok(())
+    }
+
+    /// The language of a number in this form: ordinals are words of the locale.
+    fn language_of_form(&self, form: NumberForm) -> Option<Language> {
+        match form {
+            NumberForm::Ordinal | NumberForm::LongOrdinal => Some(self.scene.locale.language()),
+            NumberForm::Numeric | NumberForm::Roman => None,
+        }
     }
 
     /// The term of what a variable counts.
@@ -80,7 +89,7 @@ impl<'s> Walk<'s, '_> {
             .locale
             .plain_term(term, label.options.form, is_plural)
             .unwrap_or("");
-        self.output.open(label_element(&label.options, self.scene.locale.language()))?;
+        self.output.open(self.label_element(&label.options))?;
         self.output.push_str(words)?;
         self.output.close()?;
         Ok(())

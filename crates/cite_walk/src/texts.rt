@@ -41,14 +41,14 @@ impl<'s> Walk<'s, '_> {
                 if is_no_date {
                     return self.write_no_date(text, words);
                 }
-                self.write_words(text, words, Some(TERM))
+                self.write_term(text, words)
             }
             TextSource::Value(value) => {
                 if self.cite.is_cut_to_suffix {
                     return Ok(());
                 }
                 let value = RichText::of_markup(self.alloc(), value.as_str())?;
-                self.output.open(text_element(text))?;
+                self.output.open(self.words_element(text))?;
                 self.output.push_rich(&value)?;
                 self.output.close()?;
                 Ok(())
@@ -56,15 +56,10 @@ impl<'s> Walk<'s, '_> {
         }
     }
 
-    /// Writes words of a style or a locale.
-    fn write_words(
-        &mut self,
-        text: &'s Text,
-        words: &str,
-        mark: Option<Mark>,
-    ) -> Result<(), AllocError> {
+    /// Writes a term of the locale.
+    fn write_term(&mut self, text: &'s Text, words: &str) -> Result<(), AllocError> {
         self.output.open(Element {
-            mark,
+            mark: Some(TERM),
             ..self.words_element(text)
         })?;
         self.output.push_str(words)?;

@@ -254,7 +254,7 @@ impl<'s, 'c> Walk<'s, 'c> {
         let is_names = matches!(inside, Some(Step::Names { .. }));
         if is_names || !matches!(self.scene.kind, SceneKind::Item) {
             self.open(Element {
-                mark: if is_names { None } else { self.author_mark() },
+                mark: self.author_mark(),
                 ..around
             })?;
             return self.output.open(Element::PLAIN);
@@ -295,7 +295,8 @@ impl<'s, 'c> Walk<'s, 'c> {
     fn close_substitute(&mut self, names_at: usize) -> Result<(), AllocError> {
         let frame = self.frames.pop().unwrap_or(Frame::NEW);
         self.add(frame);
-        let has_names = self.names.len() > frame.names_before;
+        let has_names = matches!(self.scene.kind, SceneKind::Item)
+            && self.names.len() > frame.names_before;
         self.close_marked(has_names)?;
         if !self.close_marked(has_names)? {
             return Ok(());
@@ -308,7 +309,8 @@ impl<'s, 'c> Walk<'s, 'c> {
         Ok(())
     }
 
-    /// Closes an element that may stand in for names. Where it has names, these alone are marked.
+    /// Closes an element that may stand in for names. Where it has names of an item, these alone are
+    /// marked.
     fn close_marked(&mut self, has_names: bool) -> Result<bool, AllocError> {
         if has_names {
             self.output.unmark();

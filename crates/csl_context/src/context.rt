@@ -97,8 +97,8 @@ impl<'a, T, P> Context<'a, T, P> {
         self.style.term(locator, term, form, plural)
     }
 
-    /// Adds a space where no space or no-break space ends what was written: the buffer, or where that
-    /// is empty the last text of the top frame, if it has one.
+    /// Adds a space where no space or no-break space ends what was written: the buffer, or where
+    /// that is empty the last text of the top frame, if it has one.
     ///
     /// # Errors
     ///

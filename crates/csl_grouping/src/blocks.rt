@@ -145,8 +145,8 @@ fn push_block(
     Ok(())
 }
 
-/// Adds the cites of the block of a key to an order, where the next block with names has this index;
-/// gives the index that the next one has then.
+/// Adds the cites of the block of a key to an order, where the next block with names has this
+/// index; gives the index that the next one has then.
 fn push_named(
     order: &mut Vec<Placed>,
     key: &Key<'_>,

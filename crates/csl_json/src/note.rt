@@ -125,7 +125,10 @@ fn lines_of(alloc: Global, note: &str) -> Result<(Vec<NoteLine<'_>>, &str), Allo
 fn first_line(note: &str) -> Option<(NoteLine<'_>, &str)> {
     let note = note.trim_start();
     let (line, behind) = match note.strip_prefix("{:") {
-        Some(inner) => inner.split_once('}')?,
+        Some(inner) => {
+            let (line, behind) = inner.split_once('}')?;
+            (line, behind.strip_prefix('\n').unwrap_or(behind))
+        }
         None => note.split_once('\n').unwrap_or((note, "")),
     };
     let whole = note.strip_suffix(behind).unwrap_or(note);

@@ -90,7 +90,8 @@ impl ShortNames<'_> {
             self.push_mark()?;
             self.text.push_str(tagged.behind)
         } else if self.how.shortens && is_compound {
-            Ok(())
+            self.text.push_str(tagged.before)?;
+            self.text.push_str(tagged.behind)
         } else {
             self.push_kept(name, is_compound)
         }

@@ -17,14 +17,19 @@ pub fn local_name(element: &Element) -> &str {
 }
 
 /// The name of an element of CSL. That of an element of another namespace, which has another prefix
-/// or a default namespace of its own, is empty.
+/// or, without a prefix, a default namespace of its own, is empty.
 pub fn csl_name(element: &Element) -> &str {
     let name = local_name(element);
-    let is_foreign = name.contains(':')
-        || element
-            .attribute("xmlns")
-            .is_some_and(|namespace| namespace != NAMESPACE);
+    let is_prefixed = name.len() < element.name.len();
+    let is_foreign = name.contains(':') || !is_prefixed && has_other_namespace(element);
     if is_foreign { "" } else { name }
+}
+
+/// Whether an element has a default namespace of its own that isn't CSL's.
+fn has_other_namespace(element: &Element) -> bool {
+    element
+        .attribute("xmlns")
+        .is_some_and(|namespace| namespace != NAMESPACE)
 }
 
 /// The only element of this name in its parent, if any.

@@ -173,8 +173,9 @@ fn check_root(root: &Element, reading: &mut Reading<'_>) -> Result<(), Stop> {
 }
 
 fn check_namespace(root: &Element, reading: &mut Reading<'_>) -> Result<(), Stop> {
-    let declared = attribute(root, "xmlns").or(attribute(root, "xmlns:cs"));
-    let Some(namespace) = declared else {
+    let is_prefixed = local_name(root).len() < root.name.len();
+    let declaration = if is_prefixed { "xmlns:cs" } else { "xmlns" };
+    let Some(namespace) = attribute(root, declaration) else {
         return reading.note(root.offset, root.name.as_str(), Oddity::NoNamespace);
     };
     let found = namespace.value.as_str();
