@@ -42,6 +42,7 @@ pub fn tree_of(
         names,
         formatting: around,
         url: None,
+        text: String::new(alloc),
         children: ElemChildren::new(alloc),
         open: Vec::new(alloc),
     };
@@ -55,6 +56,7 @@ pub fn tree_of(
     for _ in 0..builder.open.len() {
         builder.close()?;
     }
+    builder.end_text()?;
     let Builder { children, .. } = builder;
     Ok(children)
 }
@@ -76,6 +78,8 @@ struct Builder<'n> {
     formatting: TextFormatting,
     /// Where texts lead to.
     url: Option<Text>,
+    /// The text behind the children, which is no child yet: what comes next may belong to it.
+    text: String,
     /// The children of the innermost element that is open.
     children: ElemChildren,
     open: Vec<Opened>,
@@ -98,6 +102,19 @@ enum Opened {
 
 impl Builder<'_> {
     fn push_text(&mut self, text: String) -> Result<(), AllocError> {
+        if self.text.is_empty() {
+            self.text = text;
+            return Ok(());
+        }
+        self.text.push_str(text.as_str())
+    }
+
+    /// Makes a child of the text behind the children.
+    fn end_text(&mut self) -> Result<(), AllocError> {
+        if self.text.is_empty() {
+            return Ok(());
+        }
+        let text = replace(&mut self.text, String::new(self.alloc));
         let formatted = tree_formatting(self.formatting).add_text(text);
         let child = match &self.url {
             Some(url) => ElemChild::Link {
@@ -110,6 +127,9 @@ impl Builder<'_> {
     }
 
     fn open(&mut self, wrap: Wrap) -> Result<(), AllocError> {
+        if !matches!(&wrap, Wrap::Mark(_)) {
+            self.end_text()?;
+        }
         let opened = match wrap {
             Wrap::Formatting(asked) => {
                 let around = self.formatting;
@@ -128,7 +148,10 @@ impl Builder<'_> {
             Wrap::Quotes(_) => self.opened(None, None),
             Wrap::Display(display) => self.opened(Some(tree_display(display)), None),
             Wrap::Mark(mark) => match self.meta_of(mark)? {
-                Some(meta) => self.opened(None, Some(meta)),
+                Some(meta) => {
+                    self.end_text()?;
+                    self.opened(None, Some(meta))
+                }
                 None => Opened::Nothing,
             },
         };
@@ -165,7 +188,11 @@ impl Builder<'_> {
     }
 
     fn close(&mut self) -> Result<(), AllocError> {
-        match self.open.pop() {
+        let opened = self.open.pop();
+        if !matches!(&opened, Some(Opened::Nothing)) {
+            self.end_text()?;
+        }
+        match opened {
             Some(Opened::Formatting(around)) => self.formatting = around,
             Some(Opened::Link) => self.url = None,
             Some(

@@ -335,7 +335,7 @@ impl<'s, 'c> Walk<'s, 'c> {
     /// A mark for these names, whose persons are kept.
     fn mark_of(&mut self, blocks: &[Block<'c>]) -> Result<Mark, AllocError> {
         let alloc = self.alloc();
-        let mut named = Vec::new(alloc);
+        let mut named = Vec::with_capacity(alloc, blocks.len())?;
         for block in blocks {
             let variable = tree_variable(self.told_variable(block.variable));
             named.push((persons_of(alloc, block.names)?, variable))?;
@@ -349,7 +349,7 @@ impl<'s, 'c> Walk<'s, 'c> {
 
 /// The persons of these names.
 fn persons_of(alloc: Global, names: &[Name]) -> Result<Seq<Person>, AllocError> {
-    let mut persons = Vec::new(alloc);
+    let mut persons = Vec::with_capacity(alloc, names.len())?;
     for name in names {
         persons.push(person_of(alloc, name)?)?;
     }
