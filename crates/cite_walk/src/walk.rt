@@ -309,8 +309,8 @@ impl<'s, 'c> Walk<'s, 'c> {
         Ok(())
     }
 
-    /// Closes an element that may stand in for names. Where it has names of an item, these alone are
-    /// marked.
+    /// Closes an element that may stand in for names. Where it has names of an item, these alone
+    /// are marked.
     fn close_marked(&mut self, has_names: bool) -> Result<bool, AllocError> {
         if has_names {
             self.output.unmark();
