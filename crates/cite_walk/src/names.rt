@@ -261,7 +261,8 @@ impl<'s, 'c> Walk<'s, 'c> {
             .locale
             .plain_term(block.term, label.options.form, is_plural)
             .unwrap_or("");
-        self.output.open(self.label_element(&label.options))?;
+        let element = self.label_element(&label.options);
+        self.output.open(element)?;
         self.output.push_str(words)?;
         self.output.close()?;
         Ok(())

@@ -36,11 +36,12 @@ impl<'s> Walk<'s, '_> {
                 number_text(alloc, locale, plain.as_str(), number.form, gender)?
             }
         };
+        let language = self.language_of_form(number.form);
         self.open_number(variable)?;
         self.output.open(Element {
             display: number.display,
             text_case: number.text_case,
-            language: self.language_of_form(number.form),
+            language,
             ..element_with(&number.affixes, number.formatting)
         })?;
         self.output
@@ -77,6 +78,7 @@ impl<'s> Walk<'s, '_> {
         let Some(value) = self.number_value(variable)? else {
             return Ok(());
         };
+        let element = self.label_element(&label.options);
         let plain = value.text().plain(alloc)?;
         let counted = match (variable, &self.locator) {
             (NumberVariable::Locator, Some(locator)) => locator.counted.as_str(),
@@ -89,7 +91,7 @@ impl<'s> Walk<'s, '_> {
             .locale
             .plain_term(term, label.options.form, is_plural)
             .unwrap_or("");
-        self.output.open(self.label_element(&label.options))?;
+        self.output.open(element)?;
         self.output.push_str(words)?;
         self.output.close()?;
         Ok(())

@@ -48,7 +48,8 @@ impl<'s> Walk<'s, '_> {
                     return Ok(());
                 }
                 let value = RichText::of_markup(self.alloc(), value.as_str())?;
-                self.output.open(self.words_element(text))?;
+                let element = self.words_element(text);
+                self.output.open(element)?;
                 self.output.push_rich(&value)?;
                 self.output.close()?;
                 Ok(())
@@ -58,9 +59,10 @@ impl<'s> Walk<'s, '_> {
 
     /// Writes a term of the locale.
     fn write_term(&mut self, text: &'s Text, words: &str) -> Result<(), AllocError> {
+        let element = self.words_element(text);
         self.output.open(Element {
             mark: Some(TERM),
-            ..self.words_element(text)
+            ..element
         })?;
         self.output.push_str(words)?;
         self.output.close()?;
@@ -72,9 +74,10 @@ impl<'s> Walk<'s, '_> {
     fn write_no_date(&mut self, text: &'s Text, words: &str) -> Result<(), AllocError> {
         let mark = Mark::Date(self.dates);
         self.dates = self.dates.saturating_add(1);
+        let element = self.words_element(text);
         self.output.open(Element {
             mark: Some(mark),
-            ..self.words_element(text)
+            ..element
         })?;
         self.output.push_str(words)?;
         self.write_implicit_suffix()?;
