@@ -76,10 +76,8 @@ REPLY, MORE = ('a', node('A Reply')), ('c', node('More'))
 
 
 def order(opening, closing):
-    """The item with a quote in its title: the marks of a quote stand outside of the formatting, as
-    those of a style do."""
-    return ('b', node('On '), node(opening, 'normal'), node('Order'), node(closing, 'normal'),
-            node(' Now'))
+    """The item with a quote in its title: the marks of the quote are in italics, as the title is."""
+    return ('b', node(f'On {opening}Order{closing} Now'))
 
 
 TWO = listed(REPLY, order('“', '”'))
