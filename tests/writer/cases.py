@@ -529,7 +529,7 @@ CASES = [
          ['Nobody, the art of rivers'], [[{'id': 'page'}, {'id': 'book', 'prefix': ', '}]], affixes='delimiter="; "'),
     Case('names with a prefix', 'Namespacing: the elements of CSL may have the prefix `cs`',
          PREFIXED, [PAGE], ['Nobody'], [cites('page')]),
-    Case('names with a prefix in another language', 'Namespacing: the prefix tells the namespace of the elements of CSL',
+    Case('names with a prefix beside another namespace', 'Namespacing: the prefix tells the namespace of the elements of CSL',
          PREFIXED.replace('xmlns:cs=', 'xmlns="http://www.w3.org/1999/xhtml" xmlns:cs='), [PAGE], ['Nobody'], [cites('page')]),
     cite('a hidden cite', 'docs/WRITER.md: `hidden`', TEXT, [PAGE, BOOK], ['the art of rivers'],
          [[{'id': 'page', 'hidden': True}, {'id': 'book'}]]),
