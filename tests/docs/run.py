@@ -15,7 +15,7 @@ import sys
 
 ROOT = os.path.dirname(os.path.dirname(os.path.dirname(os.path.abspath(__file__))))
 PAGES = ['README.md', 'CONTRIBUTING.md', 'CHANGELOG.md', 'embed/README.md', 'embed/python/README.md', *sorted(
-    os.path.relpath(it, ROOT) for it in glob.glob(ROOT + '/docs/*.md'))]
+    os.path.relpath(it, ROOT) for it in glob.glob(ROOT + '/docs/**/*.md', recursive=True))]
 CODE = ('.rt', '.antt', '.edit', '.py', '.c', '.h', '.rs', '.json', '.toml', '.txt', '.pl', '.lua', '.csl')
 # What stands for something else in a path.
 STANDS_FOR = re.compile(r'[A-Z]{2,}|\bD\b|\bm\b|\.\.|\*')

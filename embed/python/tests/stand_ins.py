@@ -107,6 +107,32 @@ class MadeUpStyle(MadeUpLibrary):
         return self._put(b'{"warnings":[]}', 0, style, style_length, *given[-3:])
 
 
+class NumberedStyle(MadeUpStyle):
+    """Stands in for a library that writes by style files: works are numbered in the order in which
+    they are cited, whatever the style says."""
+
+    def gamhilon_cite(self, style, style_length, locales, locales_length, items, items_length,
+                      citations, citations_length, options, options_length, *buffer):
+        asked = json.loads(citations)
+        keys = list(dict.fromkeys(cite['id'] for cites in asked for cite in cites))
+        numbers = {key: str(number) for number, key in enumerate(keys, 1)}
+        made = {'citations': [{'content': _numbers(numbers, cites)} for cites in asked],
+                'bibliography': {'items': [{'key': key, 'first_field': _text(f'[{number}] '),
+                                            'content': [_text(key)]}
+                                           for key, number in numbers.items()],
+                                 'hanging_indent': False, 'line_spacing': 1, 'entry_spacing': 1}}
+        return self._put(json.dumps(made).encode(), 0, items, items_length, *buffer)
+
+
+def _numbers(numbers, cites):
+    content = []
+    for place, cite in enumerate(cites):
+        if not cite.get('hidden'):
+            content += [*([_text(', ')] if content else []),
+                        {'meta': {'entry': place}, 'children': [_text(numbers[cite['id']])]}]
+    return [_text('['), *content, _text(']')] if content else []
+
+
 def _citation(works, cites):
     content = []
     for place, cite in enumerate(cites):

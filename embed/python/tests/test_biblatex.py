@@ -654,7 +654,47 @@ def test_parents_that_are_not_there_or_go_round_are_told(item, more, reason):
     assert made.get('publisher') == ('Pub' if 'ring' in reason else None)
 
 
+@pytest.mark.parametrize('parent_of', [
+    lambda number: f'crossref = {{k{number + 1}}}', lambda number: f'xdata = {{k{number + 1}}}',
+    lambda number: f'crossref = {{k{(number + 1) % 500}}}',
+    lambda number: f'xdata = {{k{(number + 1) % 500}, k{(number + 2) % 500}}}',
+])
+def test_chains_and_rings_of_many_entries_cost_no_other(pybtex, parent_of):
+    text = ''.join(f'@book{{k{number}, title = {{T{number}}}, {parent_of(number)}}}\n'
+                   for number in range(500))
+    read = references.loads(f'{text}@book{{k500, publisher = {{Pub}}}}\n@book{{a, title = {{A}}}}')
+    titles = {item['id']: item.get('title') for item in read.items}
+    assert titles == {**{f'k{number}': f'T{number}' for number in range(500)},
+                      'k500': None, 'a': 'A'} and read.problems == []
+    assert any(loss.key == 'k0' and 'more than 100 entries' in loss.reason for loss in read.losses)
+
+
+def test_a_chain_of_entries_hands_all_down(pybtex):
+    text = ''.join(f'@book{{k{number}, crossref = {{k{number + 1}}}}}\n' for number in range(50))
+    read = references.loads(f'{text}@book{{k50, publisher = {{Pub}}}}')
+    assert [item.get('publisher') for item in read.items] == 51 * ['Pub'] and not read.losses
+
+
 # What is wrong in .bib files
+
+def test_strings_that_double_cost_only_what_has_them(pybtex):
+    """29 times, 10 letters would be more than 5 GB."""
+    text = '@string{s0 = "0123456789"}\n' + ''.join(
+        f'@string{{s{number} = s{number - 1} # s{number - 1}}}\n' for number in range(1, 30))
+    read = references.loads(f'{text}@book{{a, title = {{A}}, note = s29}}\n'
+                            '@book{b, title = {B}, note = s2}')
+    assert [(item['title'], item.get('note')) for item in read.items] == [
+        ('A', None), ('B', 4 * '0123456789')]
+    assert any('the string s14 has more than 100000 characters' in problem
+               for problem in read.problems)
+
+
+def test_a_string_that_entries_have_many_times_is_left_out_behind(pybtex):
+    text = f'@string{{s = "{90000 * "x"}"}}\n' + ''.join(
+        f'@book{{k{number}, title = {{T{number}}}, note = s}}\n' for number in range(120))
+    read = references.loads(text)
+    assert [len(item.get('note', '')) for item in read.items] == 111 * [90000] + 9 * [0]
+
 
 def test_an_entry_that_breaks_off_costs_no_other(pybtex):
     text = '\n'.join(['@string{x = {X Press}}', '@book{a, title = {A, author = {X}}',

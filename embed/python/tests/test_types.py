@@ -4,7 +4,7 @@ import subprocess
 import sys
 
 import pytest
-from conftest import SOURCE
+from conftest import PROJECT, SOURCE
 from test_documented_code import block
 
 pytest.importorskip('mypy', reason='there is no mypy')
@@ -65,7 +65,8 @@ def mypy(folder, *words):
 
 
 def test_the_package_passes(tmp_path):
-    assert mypy(tmp_path, f'{SOURCE}/gamhilon').startswith('Success')
+    told = mypy(tmp_path, '--config-file', f'{PROJECT}/pyproject.toml', f'{SOURCE}/gamhilon')
+    assert told.startswith('Success'), told
 
 
 DOCUMENTED = [

@@ -16,14 +16,15 @@ from ._console import (INPUT_OR_OUTPUT_FAILED, NOT_OF_ITS_FORM, json_text, name_
                        say, write)
 from ._limits import DEFAULT_DEPTH, DEFAULT_ELEMENTS, UNLIMITED
 from ._render_folder import Job, page_of, render_folder
+from ._style_commands import COMMANDS, add_style_commands, run_style_command
 from .errors import LibraryMissing, Refused
 
 BAD_COMMAND_LINE, NO_LIBRARY = 64, 69
 ENDINGS = """exit status: 0 done; 1 reading or writing failed; 2 document refused, or a file that
 isn't of its form; 3 its macros call each other in a ring; 4 its citation numbers don't fit; 5 out
 of memory; 7 a layout nests deeper than --depth; 8 a layout has more elements than --elements; 9
-its cites can't be told apart; 64 not a command line; 69 the library is missing, or what reads
-files of a form; 130 ended by Ctrl-C"""
+its cites can't be told apart; 10 texts differ (of diff and test); 64 not a command line; 69 the
+library is missing, or what reads files of a form; 130 ended by Ctrl-C"""
 
 
 class Parser(argparse.ArgumentParser):
@@ -53,6 +54,7 @@ def parser() -> argparse.ArgumentParser:
                                                'package, or the file of one')
     named.add_argument('name', nargs='?', help='a name of a style')
     named.add_argument('--all', action='store_true', help="Debian's published styles too")
+    add_style_commands(commands)
     commands.add_parser('css', help='the style sheet of reference lists in HTML')
     return made
 
@@ -184,6 +186,8 @@ def run(words: argparse.Namespace) -> int:
             return check_command(words.files, Limits(words.depth, words.elements))
         elif words.command == 'entries':
             return entries_command(words.files, words.form, words.lang, words.to)
+        elif words.command in COMMANDS:
+            return run_style_command(words)
         elif words.command == 'css':
             write(style_sheet())
         else:

@@ -1,6 +1,7 @@
 """The documents of a folder, answered by several processes. A document is the unit of work."""
 from __future__ import annotations
 
+import errno
 import multiprocessing
 import os
 import signal
@@ -10,13 +11,16 @@ from concurrent.futures.process import BrokenProcessPool
 from dataclasses import dataclass
 from functools import partial
 from multiprocessing import resource_tracker
-from typing import Dict, Iterator, Tuple
+from typing import IO, Dict, Iterator, Tuple
 
 from . import Limits, pages, print_document, print_json
 from ._console import INPUT_OR_OUTPUT_FAILED, progress, reason_and_status, say
 from ._library import library
 
 SUFFIXES = {'text': '.txt', 'html': '.html', 'markdown': '.md', 'latex': '.tex', 'json': '.json'}
+
+_MOST_PARTS = 100
+"""How many files of a page that others have begun may stand beside it."""
 
 Outcome = Tuple[int, str]
 """The exit status of a document, and what is said of it where that isn't 0."""
@@ -61,13 +65,35 @@ def answer(job: Job, path: str, target: str) -> Outcome:
     try:
         with open(path, 'rb') as file:
             text = page_of(job, file.read())
-        with open(f'{target}.part', 'wb') as file:
-            file.write(text.encode('utf-8', 'replace'))
-        os.replace(f'{target}.part', target)
+        _put(text.encode('utf-8', 'replace'), target)
         return 0, ''
     except (OSError, ValueError, ArithmeticError, MemoryError) as error:
         message, status = reason_and_status(error)
         return status, message
+
+
+def _put(page: bytes, target: str) -> None:
+    """Puts a page where it belongs, by way of a new file, which a failure leaves nothing of. Raises
+    OSError."""
+    part, file = _new_file(target)
+    try:
+        with file:
+            file.write(page)
+        os.replace(part, target)
+    except BaseException:
+        os.unlink(part)
+        raise
+
+
+def _new_file(target: str) -> Tuple[str, IO[bytes]]:
+    """A new file beside another one, and its path. No file or link that stands there is opened."""
+    for number in range(_MOST_PARTS):
+        part = f'{target}.part{number or ""}'
+        try:
+            return part, open(part, 'xb')
+        except FileExistsError:
+            continue
+    raise FileExistsError(errno.EEXIST, os.strerror(errno.EEXIST), f'{target}.part')
 
 
 def _stem(path: str) -> str:

@@ -3,7 +3,7 @@ from __future__ import annotations
 
 import re
 from dataclasses import dataclass, field
-from typing import Dict, Iterable, Iterator, List, Optional, Tuple
+from typing import Dict, Iterable, Iterator, List, Mapping, Optional, Tuple
 
 from . import bib_tables as tables
 from .errors import ReaderMissing
@@ -14,6 +14,12 @@ _NEVER_INHERITED = {
     'presort', 'related', 'relatedoptions', 'relatedstring', 'relatedtype', 'shorthand',
     'shorthandintro', 'sortkey',
 }
+_MOST_PARENTS = 100
+"""From how many entries one inherits, counted each time that it does."""
+
+_LONGEST_STRING, _MOST_OF_STRINGS = 100000, 10000000
+"""How many characters a string may have, and how many of all strings come into entries."""
+
 _SHORT_TITLES = {'shorttitle', 'sorttitle', 'indextitle', 'indexsorttitle'}
 _TITLES = ('title', 'subtitle', 'titleaddon')
 _DATES = {'date', 'year', 'month', 'day', 'endyear', 'endmonth', 'endday'}
@@ -39,7 +45,6 @@ def parse(text: str) -> Tuple[List[BibEntry], List[str]]:
     entry that breaks off costs no other. Raises ReaderMissing where there is no pybtex."""
     try:
         from pybtex.database.input.bibtex import LowLevelParser, month_names  # type: ignore
-        from pybtex.utils import CaseInsensitiveDict  # type: ignore
     except ImportError as error:
         raise ReaderMissing(f'{error}: .bib files are read by pybtex: install python3-pybtex '
                             '(Debian), or pybtex by pip') from error
@@ -47,7 +52,7 @@ def parse(text: str) -> Tuple[List[BibEntry], List[str]]:
     def read(parts: Iterable[Tuple[int, str]]) -> Tuple[List[BibEntry], List[str]]:
         errors: List[str] = []
         how = {'handle_error': lambda error: errors.append(str(error)),
-               'macros': CaseInsensitiveDict(month_names)}
+               'macros': _Strings(month_names, errors)}
         found: List[BibEntry] = []
         for line, part in parts:
             parser = LowLevelParser(part, **how)
@@ -83,19 +88,50 @@ def _entry(key: str, entry_type: str, fields: List[Tuple[str, List[str]]]) -> Bi
     return entry
 
 
+class _Strings:
+    """The strings of a file by their names, in letters of any case. Strings of strings double at
+    each step: one that is too long is left out, and so are all where entries have too much of
+    them."""
+
+    def __init__(self, strings: Mapping[str, str], errors: List[str]) -> None:
+        self._strings = {name.lower(): text for name, text in strings.items()}
+        self._errors = errors
+        self._left = _MOST_OF_STRINGS
+
+    def __getitem__(self, name: str) -> str:
+        text = self._strings[name.lower()]
+        self._left -= len(text)
+        if self._left < 0:
+            raise KeyError(name)
+        return text
+
+    def __setitem__(self, name: str, text: str) -> None:
+        if len(text) <= _LONGEST_STRING:
+            self._strings[name.lower()] = text
+        else:
+            self._errors.append(f'the string {name} has more than {_LONGEST_STRING} characters, '
+                                'left out')
+
+
 class Inheritance:
     """What entries inherit by `crossref` and `xdata`."""
 
     def __init__(self, entries: List[BibEntry], is_biblatex: bool) -> None:
         self.is_biblatex = is_biblatex
+        self.left = _MOST_PARENTS
         self.by_key: Dict[str, BibEntry] = {}
         self.by_folded_key: Dict[str, BibEntry] = {}
         for entry in entries:
             self.by_key.setdefault(entry.key, entry)
             self.by_folded_key.setdefault(entry.key.lower(), entry)
 
-    def whole(self, entry: BibEntry, below: Tuple[str, ...] = ()) -> BibEntry:
-        """The entry with what it inherits, also by entries that themselves inherit."""
+    def whole(self, entry: BibEntry) -> BibEntry:
+        """The entry with what it inherits, also by entries that themselves inherit. What is behind
+        too many of them is left out."""
+        self.left = _MOST_PARENTS
+        return self._whole(entry, ())
+
+    def _whole(self, entry: BibEntry, below: Tuple[str, ...]) -> BibEntry:
         made = BibEntry(entry.key, entry.type, dict(entry.fields), list(entry.problems))
         keys = [key.strip() for key in entry.fields.get('xdata', '').split(',') if key.strip()]
         for key in reversed(keys):
@@ -117,7 +153,12 @@ class Inheritance:
         if parent.key in (*below, child.key):
             child.problems.append((name, f'a ring of entries, with {key}'))
             return None
-        whole = self.whole(parent, (*below, child.key))
+        if self.left == 0:
+            child.problems.append((name, f'more than {_MOST_PARENTS} entries to inherit from, '
+                                         'the rest left out'))
+            return None
+        self.left -= 1
+        whole = self._whole(parent, (*below, child.key))
         child.problems += [problem for problem in whole.problems
                            if problem[0] in ('xdata', 'crossref')]
         return whole

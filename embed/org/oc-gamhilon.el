@@ -1,0 +1,313 @@
+;;; oc-gamhilon.el --- Citations of Org in any style, by Gamhilon -*- lexical-binding: t; -*-
+
+;; SPDX-License-Identifier: MIT OR Apache-2.0
+;; Version: 0.2.0
+;; Package-Requires: ((emacs "28.1") (org "9.5"))
+;; Keywords: bib, wp
+
+;;; Commentary:
+
+;; An export processor for the citations of Org 9.5.  In a document:
+;;
+;;     #+bibliography: references.bib
+;;     #+cite_export: gamhilon apa
+;;
+;;     See [cite:@doe99 p. 4], and [cite/t:@roe00].
+;;
+;;     #+print_bibliography:
+;;
+;; and in the init file (require 'oc-gamhilon).  A style is a name or the path
+;; of a file (docs/STYLES.md); files of references are those that the program
+;; reads.  What it writes is HTML, LaTeX or text, as the back-end wants it.
+;;
+;; Styles of citations: none, `text' (t), `author' (a), `noauthor' (na) and
+;; `nocite' (n).
+
+;;; Code:
+
+(require 'json)
+(require 'oc)
+(require 'ox)
+(require 'seq)
+
+(defgroup org-cite-gamhilon nil
+  "Citations in any style, by Gamhilon."
+  :group 'org-cite)
+
+(defcustom org-cite-gamhilon-program '("python3" "-m" "gamhilon")
+  "The program that writes citations, and its first arguments."
+  :type '(repeat string))
+
+(defcustom org-cite-gamhilon-style "author-date"
+  "The style of documents that tell none."
+  :type 'string)
+
+(defcustom org-cite-gamhilon-arguments nil
+  "More arguments for the program, such as (\"--locales\" \"~/locales\")."
+  :type '(repeat string))
+
+(defconst org-cite-gamhilon--labels
+  '(("page" "p." "pp." "page" "pages")
+    ("chapter" "chap." "chaps." "ch." "chapter" "chapters")
+    ("section" "sec." "secs." "§" "§§" "section" "sections")
+    ("volume" "vol." "vols." "volume" "volumes")
+    ("figure" "fig." "figs." "figure" "figures")
+    ("paragraph" "para." "paras." "¶" "¶¶" "paragraph" "paragraphs")
+    ("line" "l." "ll." "line" "lines") ("verse" "v." "vv." "verse" "verses")
+    ("note" "n." "nn." "note" "notes") ("issue" "no." "nos." "number" "numbers")
+    ("part" "pt." "pts." "part" "parts") ("book" "bk." "bks." "book" "books")
+    ("column" "col." "cols." "column" "columns")
+    ("folio" "fol." "fols." "folio" "folios"))
+  "The kinds of locators, and how documents name them.")
+
+(defconst org-cite-gamhilon--locator
+  (let ((numbers "[[:alpha:]]?[0-9][[:alnum:].:/]*\\|[ivxlcdm]+\\>"))
+    (concat "\\`[, ]*\\(?:"
+            (regexp-opt (mapcan (lambda (label) (copy-sequence (cdr label)))
+                                org-cite-gamhilon--labels)
+                        t)
+            "[  ]*\\)?\\(\\(?:" numbers "\\)\\(?:[ ]*[-–—,&]+[ ]*\\(?:" numbers "\\)\\)*\\)"))
+  "A locator at the beginning of what stands behind a key.")
+
+;;; What documents cite
+
+(defun org-cite-gamhilon--text (data)
+  "The text of DATA, a part of the parse tree, as the document has it."
+  (org-trim (substring-no-properties (org-element-interpret-data data))))
+
+(defun org-cite-gamhilon--locator-and-rest (suffix)
+  "The locator in SUFFIX as members of a cite, and the rest of it."
+  (let ((case-fold-search nil))
+    (if (not (string-match org-cite-gamhilon--locator suffix))
+        (cons nil suffix)
+      (let* ((told (match-string 1 suffix))
+             (locator (match-string 2 suffix))
+             (rest (substring suffix (match-end 0)))
+             (kind (car (seq-find (lambda (label) (member told (cdr label)))
+                                  org-cite-gamhilon--labels))))
+        (cons `((locator . ,locator) (label . ,(or kind "page"))) rest)))))
+
+(defun org-cite-gamhilon--cite (reference)
+  "The cite of REFERENCE, as an alist."
+  (let* ((prefix (org-cite-gamhilon--text (org-element-property :prefix reference)))
+         (suffix (org-cite-gamhilon--text (org-element-property :suffix reference)))
+         (found (org-cite-gamhilon--locator-and-rest suffix)))
+    `((id . ,(org-element-property :key reference))
+      (prefix . ,prefix)
+      ,@(car found)
+      (suffix . ,(cdr found)))))
+
+(defun org-cite-gamhilon--cites (citation)
+  "The cites of CITATION, whose own affixes are those of its first and its last."
+  (let ((cites (mapcar #'org-cite-gamhilon--cite (org-cite-get-references citation)))
+        (prefix (org-cite-gamhilon--text (org-element-property :prefix citation)))
+        (suffix (org-cite-gamhilon--text (org-element-property :suffix citation))))
+    (unless (string-empty-p prefix)
+      (let ((place (assq 'prefix (car cites))))
+        (setcdr place (org-trim (concat prefix " " (cdr place))))))
+    (unless (string-empty-p suffix)
+      (let ((place (assq 'suffix (car (last cites)))))
+        (setcdr place (concat (cdr place) (if (string-match-p "\\`[[:alnum:]]" suffix) " " "")
+                              suffix))))
+    cites))
+
+(defun org-cite-gamhilon--kind (citation info)
+  "What is shown of CITATION in the export of INFO, as a symbol."
+  (pcase (car (org-cite-citation-style citation info))
+    ((or "text" "t") 'text)
+    ((or "author" "a") 'author)
+    ((or "noauthor" "na") 'noauthor)
+    ((or "nocite" "n") 'nocite)
+    (_ 'whole)))
+
+(defun org-cite-gamhilon--capital (cite)
+  "CITE, whose prefix begins with a capital."
+  (let ((prefix (cdr (assq 'prefix cite))))
+    (cons (cons 'prefix (concat (upcase (substring prefix 0 (min 1 (length prefix))))
+                                (substring prefix (min 1 (length prefix)))))
+          (assq-delete-all 'prefix cite))))
+
+(defun org-cite-gamhilon--requests (citation kind note)
+  "What the program is asked for, so that CITATION is written as KIND.
+NOTE is the number of the note that it begins, or in which it stands, or nil."
+  (let* ((cites (mapcar (lambda (cite) (if note (cons (cons 'note (abs note)) cite) cite))
+                        (org-cite-gamhilon--cites citation)))
+         (cites (if (and note (> note 0))
+                    (cons (org-cite-gamhilon--capital (car cites)) (cdr cites))
+                  cites))
+         (all (lambda (member) (list (mapcar (lambda (cite) (cons (cons member t) cite)) cites)))))
+    (pcase kind
+      ('author (funcall all 'author-only))
+      ('noauthor (funcall all 'suppress-author))
+      ('nocite (funcall all 'hidden))
+      ('text (mapcan (lambda (cite)
+                       (list (list `((id . ,(cdr (assq 'id cite))) (author-only . t)))
+                             (list (cons '(suppress-author . t) cite))))
+                     cites))
+      (_ (list cites)))))
+
+;;; The program
+
+(defun org-cite-gamhilon--form (info)
+  "The form of what the back-end of INFO writes."
+  (let ((backend (plist-get info :back-end)))
+    (cond ((org-export-derived-backend-p backend 'html) "html")
+          ((org-export-derived-backend-p backend 'latex) "latex")
+          (t "text"))))
+
+(defun org-cite-gamhilon--arguments (info form citations)
+  "The arguments of the program for INFO, FORM and the file CITATIONS."
+  (let* ((files (or (plist-get info :bibliography)
+                    (user-error "The document has no #+bibliography")))
+         (language (or (plist-get info :language) "en"))
+         (more (mapcan (lambda (file) (list "--references" file)) (copy-sequence (cdr files)))))
+    `("--style" ,(or (org-cite-bibliography-style info) org-cite-gamhilon-style)
+      ,@(unless (string-prefix-p "en" language) (list "--locale" language))
+      ,@org-cite-gamhilon-arguments "--to" ,form ,@more ,(car files) ,citations)))
+
+(defun org-cite-gamhilon--call (command form requests info)
+  "What COMMAND writes in FORM for REQUESTS, in the export of INFO.
+What the program warns of is shown as messages."
+  (let ((citations (make-temp-file "gamhilon" nil ".json"))
+        (warnings (make-temp-file "gamhilon"))
+        (coding-system-for-read 'utf-8)
+        (coding-system-for-write 'utf-8))
+    (unwind-protect
+        (with-temp-buffer
+          (with-temp-file citations
+            (insert (json-encode (vconcat (mapcar #'vconcat requests)))))
+          (let* ((program org-cite-gamhilon-program)
+                 (status (apply #'call-process (car program) nil (list t warnings) nil
+                                (append (cdr program) (list command)
+                                        (org-cite-gamhilon--arguments info form citations))))
+                 (document (or (plist-get info :input-file) "the document"))
+                 (said (with-temp-buffer
+                         (insert-file-contents warnings)
+                         (org-trim (string-replace citations document (buffer-string))))))
+            (unless (equal status 0)
+              (user-error "%s" said))
+            (unless (string-empty-p said)
+              (message "%s" said))
+            (buffer-string)))
+      (delete-file citations)
+      (delete-file warnings))))
+
+(defun org-cite-gamhilon--lines (text count)
+  "The lines of TEXT, which are COUNT."
+  (let ((lines (split-string (string-remove-suffix "\n" text) "\n")))
+    (unless (= (length lines) count)
+      (error "The program wrote %d citations of %d" (length lines) count))
+    lines))
+
+;;; What is exported
+
+(defun org-cite-gamhilon--is-note (requests info)
+  "Whether the style of INFO is one of notes: it gives REQUESTS numbers of notes."
+  (let* ((json-object-type 'alist)
+         (json-array-type 'list)
+         (answer (json-read-from-string
+                  (org-cite-gamhilon--call "cite" "json" requests info))))
+    (and (assq 'note_number (car (alist-get 'citations answer))) t)))
+
+(defun org-cite-gamhilon--note (citation kind info)
+  "The number of the note of CITATION in INFO, or nil where KIND stays in the text.
+It is put into one unless it stands in one, whose number is negative."
+  (let ((note (org-cite-inside-footnote-p citation)))
+    (cond (note
+           (- (org-export-get-footnote-number note info)))
+          ((memq kind '(whole text noauthor))
+           (org-cite-adjust-note citation info)
+           (org-export-get-footnote-number (org-cite-wrap-citation citation info) info)))))
+
+(defun org-cite-gamhilon--all-requests (citations notes info)
+  "The requests of each of CITATIONS, in a list, for INFO.
+NOTES is whether the style is one of notes, in which they are put into these."
+  (mapcar (lambda (citation)
+            (let ((kind (org-cite-gamhilon--kind citation info)))
+              (org-cite-gamhilon--requests
+               citation (if (and notes (eq kind 'text)) 'whole kind)
+               (and notes (org-cite-gamhilon--note citation kind info)))))
+          citations))
+
+(defun org-cite-gamhilon--in-order (pairs notes info)
+  "PAIRS of citations and requests in the order in which they are asked for.
+With NOTES, authors in the text of INFO come last: a note that follows one is
+no `Ibid.'."
+  (let ((late (lambda (pair)
+                (and notes (memq (org-cite-gamhilon--kind (car pair) info) '(author nocite))))))
+    (append (seq-remove late pairs) (seq-filter late pairs))))
+
+(defun org-cite-gamhilon--answer (info)
+  "What is written of the citations of INFO, as an alist, and their requests.
+INFO keeps it."
+  (or (plist-get info :cite-gamhilon)
+      (let* ((citations (org-cite-list-citations info))
+             (first (org-cite-gamhilon--all-requests citations nil info))
+             (notes (org-cite-gamhilon--is-note (apply #'append first) info))
+             (each (if notes (org-cite-gamhilon--all-requests citations t info) first))
+             (pairs (org-cite-gamhilon--in-order (seq-mapn #'cons citations each) notes info))
+             (requests (mapcan (lambda (pair) (copy-sequence (cdr pair))) pairs))
+             (form (org-cite-gamhilon--form info))
+             (lines (org-cite-gamhilon--lines
+                     (org-cite-gamhilon--call "cite" form requests info) (length requests)))
+             (written (mapcar
+                       (lambda (pair)
+                         (let ((count (length (cdr pair))))
+                           (prog1 (cons (car pair)
+                                        (seq-remove #'string-empty-p (seq-take lines count)))
+                             (setq lines (seq-drop lines count)))))
+                       pairs))
+             (answer `(,written (requests . ,requests) (notes . ,notes))))
+        (plist-put info :cite-gamhilon answer)
+        answer)))
+
+(defun org-cite-gamhilon--joined (parts)
+  "PARTS with spaces between: an author, and a cite without it.
+In styles of numbers and labels a cite has no author, and stands alone."
+  (pcase parts
+    (`(,author ,rest . ,more)
+     (let ((own (if (string-match-p (regexp-quote author) rest) rest (concat author " " rest))))
+       (if more (concat own ", " (org-cite-gamhilon--joined more)) own)))
+    (_ (or (car parts) ""))))
+
+(defun org-cite-gamhilon--without-stop (text)
+  "TEXT without the full stop at its end."
+  (replace-regexp-in-string "\\.\\([”’\"]?\\)\\'" "\\1" text))
+
+(defun org-cite-gamhilon--goes-on-p (citation info)
+  "Whether something stands behind CITATION in the note of INFO that has it."
+  (and (alist-get 'notes (cdr (org-cite-gamhilon--answer info)))
+       (org-export-get-next-element citation info)))
+
+(defun org-cite-gamhilon--exported (text info)
+  "TEXT of the program as the back-end of INFO wants it."
+  (if (equal (org-cite-gamhilon--form info) "text")
+      (org-export-data text info)
+    text))
+
+(defun org-cite-gamhilon-export-citation (citation _style _backend info)
+  "Export CITATION in the export of INFO."
+  (let* ((parts (cdr (assq citation (car (org-cite-gamhilon--answer info)))))
+         (text (org-cite-gamhilon--joined parts)))
+    (org-cite-gamhilon--exported
+     (if (org-cite-gamhilon--goes-on-p citation info) (org-cite-gamhilon--without-stop text) text)
+     info)))
+
+(defun org-cite-gamhilon-export-bibliography (_keys _files _style _props _backend info)
+  "Export the reference list in the export of INFO."
+  (let* ((form (org-cite-gamhilon--form info))
+         (requests (alist-get 'requests (cdr (org-cite-gamhilon--answer info))))
+         (text (org-cite-gamhilon--call "bibliography" form requests info)))
+    (if (equal form "text")
+        (mapconcat (lambda (line) (org-cite-gamhilon--exported line info))
+                   (split-string text "\n" t) "\n\n")
+      text)))
+
+(org-cite-register-processor 'gamhilon
+  :export-citation #'org-cite-gamhilon-export-citation
+  :export-bibliography #'org-cite-gamhilon-export-bibliography
+  :cite-styles
+  '((("text" "t")) (("author" "a")) (("noauthor" "na")) (("nocite" "n")) (("nil"))))
+
+(provide 'oc-gamhilon)
+;;; oc-gamhilon.el ends here
