@@ -335,6 +335,13 @@ def shapes():
         'unclosed tags': of_one_item(1000000, lambda n: {'title': '<i>' * n}),
         'unopened tags': of_one_item(2000000, lambda n: {'title': '<i>' + '</b>' * n}),
         'a list of texts': of_one_item(1000000, lambda n: {'title': ['a'] * n}),
+        'fractions': of_one_item(200000, lambda n: {'title': [1.5] * n}),
+        'keys that repeat': lambda size: b'[{"id": "x"%s}]' % (b', "title": "a", "note": "b"' * (size * 200000)),
+        'objects whose keys repeat': lambda size: b'[{"id": "x", "custom": [{}%s]}]' % (b', {"a": 1, "a": 2}' * (size * 60000)),
+        'lines of a note': of_one_item(100000, lambda n: {'note': 'volume: 7\n' * n}),
+        'unknown lines of a note': of_one_item(200000, lambda n: {'note': 'OCLC: 7\n' * n}),
+        'names in a note': of_one_item(100000, lambda n: {'note': 'author: Doe || J\n' * n}),
+        'braces of a note': of_one_item(100000, lambda n: {'note': '{:volume: 7}' * n}),
         'a date': of_one_item(4000000, lambda n: {'issued': '1-' * n}),
     }
 

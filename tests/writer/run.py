@@ -16,6 +16,9 @@ import argparse
 import glob
 import json
 import os
+import resource
+import socket
+import subprocess
 import sys
 import tempfile
 from concurrent.futures import ThreadPoolExecutor
@@ -29,7 +32,7 @@ import runs
 from cases import CASES
 from faults import CITATIONS, FAULTS, REFERENCES, STYLE
 from mutations import is_told, mutated_files
-from runs import Failed, compiled, count
+from runs import Failed, compiled, count, grows_evenly, processor_time
 
 SECONDS = 120
 MOST_GROWTHS = 20000
@@ -254,6 +257,55 @@ def try_mutations(program, count, seed):
     print('%d triples of files of the seed %d, of which %d are refused' % (count, seed, refused))
 
 
+# Much of a kind
+
+# How many reads of the standard input a program may have made before it ends.
+PACKETS = 1 << 21
+
+
+def try_packets(program):
+    """The standard input is read to its end, in packets of one byte too: each read of such a socket
+    gives one packet."""
+    ours, theirs = socket.socketpair(socket.AF_UNIX, socket.SOCK_SEQPACKET)
+    with subprocess.Popen([program, 'check', '-'], stdin=theirs, stdout=subprocess.PIPE) as process:
+        theirs.close()
+        text = REFERENCES.encode().rjust(PACKETS)
+        try:
+            for place in range(len(text)):
+                ours.send(text[place:place + 1])
+        except BrokenPipeError:
+            pass
+        ours.close()
+        out = process.stdout.read()
+    if (process.returncode, out) != (0, b'-: 1 reference\n'):
+        raise Failed('status %d, %r' % (process.returncode, out))
+
+
+# What the note of the nth citation of so many is.
+NOTES = {
+    'notes in a row': lambda n, count: n + 1,
+    'every second citation with a note': lambda n, count: None if n % 2 else n,
+    'the last note of all, and none behind it': lambda n, count: (n or 2**64 - 1) if n < count // 2 else None,
+}
+
+
+def try_notes(program, note):
+    """Four times as many citations take about four times as long."""
+    def seconds(count):
+        cites = ({'id': 'a'} if note(n, count) is None else {'id': 'a', 'note': note(n, count)} for n in range(count))
+        with tempfile.TemporaryDirectory(prefix='notes-') as folder:
+            files = {'s.csl': STYLE, 'r.json': REFERENCES, 'c.json': json.dumps([[cite] for cite in cites])}
+            written(folder, {name: text.encode() for name, text in files.items()})
+            words = ['cite', '--style', *[os.path.join(folder, name) for name in files]]
+            took, (status, out, _) = processor_time(resource.RUSAGE_CHILDREN, lambda: ended(program, *words))
+        if (status, out) != (0, 'A\n' * count):
+            raise Failed('status %d, %r' % (status, out[:100]))
+        return took
+
+    if not grows_evenly('citations', seconds, 5000, 20000, 0.1):
+        raise Failed('more than four times as long')
+
+
 def tests_of(options):
     tests = [('help', try_help), ('JSON', try_json)]
     tests += [('case: ' + case.name, try_case, case) for case in CASES]
@@ -274,6 +326,8 @@ def tests_of(options):
         tests.append(('growths of memory: %s in %s' % (verb, os.path.basename(path)), refused_in_turn,
                       [verb, '--style', path, 'r.json', 'c.json']))
     tests.append(('growths of memory: render', refused_in_turn, ['render', ROOT + '/examples/author_date.json']))
+    tests.append(('the standard input in packets', try_packets))
+    tests += [('growth: ' + name, try_notes, note) for name, note in NOTES.items()]
     tests.append(('changed files', try_mutations, options.mutate, options.seed))
     return tests
 

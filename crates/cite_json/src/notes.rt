@@ -16,7 +16,10 @@ pub fn number_notes(alloc: Global, citations: &mut [Citation]) -> Result<(), All
     }
     let mut last = 0usize;
     for citation in citations.iter_mut() {
-        let note = citation.note.unwrap_or(own_note(&told, last));
+        let note = match citation.note {
+            Some(note) => note,
+            None => own_note(&told, last),
+        };
         citation.note = Some(note);
         last = last.max(note);
     }
@@ -34,11 +37,12 @@ fn told_notes(alloc: Global, citations: &[Citation]) -> Result<IndexSet<usize>, 
     Ok(told)
 }
 
-/// The first note behind this one that no citation tells.
+/// The first note behind this one that no citation tells. Where there is none, it is the greatest
+/// number.
 fn own_note(told: &IndexSet<usize>, last: usize) -> usize {
     let mut note = last.saturating_add(1);
     for _ in 0..told.len() {
-        if !told.contains(&note) {
+        if note == usize::MAX || !told.contains(&note) {
             return note;
         }
         note = note.saturating_add(1);

@@ -5,9 +5,10 @@ use crate::warning::{CiteWarning, WarningKind};
 use cite_host::cites::{Citation, Cite};
 use cite_walk::cite::CiteLocator;
 use csl_json::fault::{Pointer, Step};
+use csl_json::unkept::{NumberTexts, Unkept};
 use csl_references::rich_text::RichText;
 use csl_vocabulary::locator::LocatorType;
-use serde_json::{Map, Value};
+use serde_json::{Map, Number, Value};
 use std::alloc::{AllocError, Global};
 
 /// What was read of citations.
@@ -27,14 +28,12 @@ pub struct ReadCitations {
 /// `NoUtf8` and `NoJson` where the bytes are none; `Fault` with the first part that is not of its
 /// form; `OutOfMemory`.
 pub fn read_citations(alloc: Global, bytes: &[u8]) -> Result<ReadCitations, CitationsError> {
+    let unkept = Unkept::of_bytes(alloc, bytes)?;
     let value = value_of(alloc, bytes)?;
     let Some(items) = value.as_array() else {
         return Err(refusal(Place::Whole.pointer(alloc)?, Wanted::Citations));
     };
-    let mut reader = Reader {
-        alloc,
-        warnings: Vec::new(alloc),
-    };
+    let mut reader = Reader::new(alloc, unkept)?;
     let mut citations = Vec::new(alloc);
     for (index, item) in items.iter().enumerate() {
         let citation = reader.citation(index, item)?;
@@ -107,9 +106,30 @@ impl Place {
 struct Reader {
     alloc: Global,
     warnings: Vec<CiteWarning>,
+    number_texts: NumberTexts,
 }
 
 impl Reader {
+    /// A reader of a value that doesn't keep this of its text. It has warned of repeated keys.
+    fn new(alloc: Global, unkept: Unkept) -> Result<Reader, AllocError> {
+        let Unkept {
+            repeated_keys,
+            number_texts,
+        } = unkept;
+        let mut warnings = Vec::new(alloc);
+        for pointer in repeated_keys {
+            warnings.push(CiteWarning {
+                pointer,
+                kind: WarningKind::RepeatedKey,
+            })?;
+        }
+        Ok(Reader {
+            alloc,
+            warnings,
+            number_texts,
+        })
+    }
+
     fn citation(&mut self, citation: usize, item: &Value) -> Result<Citation, CitationsError> {
         let Some(members) = item.as_array() else {
             let pointer = Place::Citation(citation).pointer(self.alloc)?;
@@ -134,19 +154,61 @@ impl Reader {
 
     fn cite(&mut self, place: Place, object: &Map<String, Value>) -> Result<Cite, CitationsError> {
         let alloc = self.alloc;
-        let Some(id) = text_at(alloc, object, "id")? else {
+        let Some(id) = self.text_at(place, object, "id")? else {
             return Err(refusal(place.pointer(alloc)?, Wanted::Id));
         };
         self.warn_of_members(place, object)?;
         Ok(Cite {
             id,
-            locator: locator_of(alloc, object)?,
-            prefix: text_at(alloc, object, "prefix")?.unwrap_or(String::new(alloc)),
-            suffix: text_at(alloc, object, "suffix")?.unwrap_or(String::new(alloc)),
+            locator: self.locator_of(place, object)?,
+            prefix: self
+                .text_at(place, object, "prefix")?
+                .unwrap_or(String::new(alloc)),
+            suffix: self
+                .text_at(place, object, "suffix")?
+                .unwrap_or(String::new(alloc)),
             suppresses_author: flag_at(object, "suppress-author"),
             is_author_only: flag_at(object, "author-only"),
             is_hidden: flag_at(object, "hidden"),
         })
+    }
+
+    fn locator_of(
+        &self,
+        place: Place,
+        object: &Map<String, Value>,
+    ) -> Result<Option<CiteLocator>, AllocError> {
+        let Some(text) = self.text_at(place, object, "locator")? else {
+            return Ok(None);
+        };
+        let text = RichText::of_markup(self.alloc, text.as_str().trim())?;
+        if text.is_empty() {
+            return Ok(None);
+        }
+        let kind = locator_type_of(object);
+        Ok(Some(CiteLocator { kind, text }))
+    }
+
+    /// The text or the number at a key.
+    fn text_at(
+        &self,
+        place: Place,
+        object: &Map<String, Value>,
+        key: &str,
+    ) -> Result<Option<String>, AllocError> {
+        match object.get(key) {
+            Some(Value::String(text)) => Ok(Some(text.clone()?)),
+            Some(Value::Number(number)) => Ok(Some(self.number_text(place, key, number)?)),
+            _ => Ok(None),
+        }
+    }
+
+    fn number_text(&self, place: Place, key: &str, number: &Number) -> Result<String, AllocError> {
+        if self.number_texts.may_have(number) {
+            let pointer = place.member(self.alloc, key)?;
+            return self.number_texts.text_at(self.alloc, &pointer, number);
+        }
+        format!(in self.alloc; "{number}")
     }
 
     /// Warns of each member that is left out.
@@ -175,21 +237,6 @@ fn note_of(object: &Map<String, Value>) -> Option<usize> {
     note_number(object.get("note")?)
 }
 
-fn locator_of(
-    alloc: Global,
-    object: &Map<String, Value>,
-) -> Result<Option<CiteLocator>, AllocError> {
-    let Some(text) = text_at(alloc, object, "locator")? else {
-        return Ok(None);
-    };
-    let text = RichText::of_markup(alloc, text.as_str().trim())?;
-    if text.is_empty() {
-        return Ok(None);
-    }
-    let kind = locator_type_of(object);
-    Ok(Some(CiteLocator { kind, text }))
-}
-
 /// The kind of the locator of a cite: a page where it tells none that is known.
 fn locator_type_of(object: &Map<String, Value>) -> LocatorType {
     match object.get("label") {
@@ -204,18 +251,5 @@ fn flag_at(object: &Map<String, Value>, name: &str) -> bool {
     match object.get(name) {
         Some(value) => value.as_bool().unwrap_or(false),
         None => false,
-    }
-}
-
-/// The text or the number at a key.
-fn text_at(
-    alloc: Global,
-    object: &Map<String, Value>,
-    name: &str,
-) -> Result<Option<String>, AllocError> {
-    match object.get(name) {
-        Some(Value::String(text)) => Ok(Some(text.clone()?)),
-        Some(Value::Number(number)) => Ok(Some(format!(in alloc; "{number}")?)),
-        _ => Ok(None),
     }
 }

@@ -16,6 +16,9 @@ pub enum ValueKind {
 /// What was done with a member of a cite.
 #[derive(Clone, Copy, Debug, PartialEq, Eq)]
 pub enum WarningKind {
+    /// The key stands more than once in its object, so all but the last of its values were left
+    /// out.
+    RepeatedKey,
     /// No cite has this key, so it was left out.
     UnknownKey,
     /// The value is none of this kind, so it was left out.
@@ -35,6 +38,7 @@ pub struct CiteWarning {
 impl fmt::Display for WarningKind {
     fn fmt<W: fmt::Write>(&self, f: &mut fmt::Formatter<W>) -> fmt::Result {
         f.write_str(match self {
+            WarningKind::RepeatedKey => "repeated key, the value before was replaced",
             WarningKind::UnknownKey => "unknown key, left out",
             WarningKind::OtherValue(ValueKind::Text) => "no text, left out",
             WarningKind::OtherValue(ValueKind::Flag) => "neither true nor false, left out",

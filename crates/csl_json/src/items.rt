@@ -118,7 +118,11 @@ impl Reader {
         ensures { Faults result place.now (view item.now) }
     {
         match item.get(key) {
-            Some(value) => self.read_member(&place.member(key), key, value, reference),
+            Some(value) => {
+                let place = place.member(key);
+                self.warn_of_text(&place, key, value)?;
+                self.read_member(&place, key, value, reference)
+            }
             None => Ok(()),
         }
     }
@@ -155,7 +159,7 @@ impl Reader {
     {
         match value {
             Value::String(text) => Ok(text.clone()?),
-            Value::Number(number) => Ok(format!(in self.alloc; "{number}")?),
+            Value::Number(number) => Ok(self.number_text(place, number)?),
             _ => Err(refusal(self.alloc, place, value, Wanted::Id)),
         }
     }

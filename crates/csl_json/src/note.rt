@@ -131,7 +131,8 @@ fn first_line(note: &str) -> Option<(NoteLine<'_>, &str)> {
         }
         None => note.split_once('\n').unwrap_or((note, "")),
     };
-    let whole = note.strip_suffix(behind).unwrap_or(note);
+    let length = note.len().saturating_sub(behind.len());
+    let whole = note.get(..length).unwrap_or(note);
     Some((note_line(line, whole)?, behind))
 }
 

@@ -6,13 +6,14 @@ ghost use Rattle.serde_json.specs.View.{view};
 ghost use Rattle.csl_json.specs.Faults.{at_place, kind, IsErrorOf, IsFaultOf, IsFoundThere};
 
 use crate::dates::DATE_KEYS;
-use crate::fault::{Fault, Found, ReferencesError, Wanted};
+use crate::fault::{Fault, Found, Pointer, ReferencesError, Wanted};
 use crate::guesser::Guesser;
 use crate::keys::{item_keys, type_names};
 use crate::names::NAME_KEYS;
 use crate::place::Place;
+use crate::unkept::{NumberTexts, Unkept};
 use crate::warning::{Warning, WarningKind};
-use serde_json::{Map, Value};
+use serde_json::{Map, Number, Value};
 use std::alloc::{AllocError, Global};
 
 /// What the value is found to be.
@@ -83,11 +84,24 @@ pub(crate) fn lacking_id(alloc: Global, place: &Place, item: &Value) -> Referenc
     }
 }
 
+/// The warnings of keys that stand more than once in their object.
+fn repeated_warnings(alloc: Global, keys: Vec<Pointer>) -> Result<Vec<Warning>, AllocError> {
+    let mut warnings = Vec::new(alloc);
+    for pointer in keys {
+        warnings.push(Warning {
+            pointer,
+            kind: WarningKind::RepeatedKey,
+        })?;
+    }
+    Ok(warnings)
+}
+
 /// A reader of CSL-JSON.
 #[derive(Drop)]
 pub(crate) struct Reader {
     pub alloc: Global,
     pub warnings: Vec<Warning>,
+    pub number_texts: NumberTexts,
     /// What guesses at the keys of items, names and dates, and at types.
     pub item_keys: Guesser,
     pub name_keys: Guesser,
@@ -96,10 +110,16 @@ pub(crate) struct Reader {
 }
 
 impl Reader {
-    pub(crate) fn new(alloc: Global) -> Result<Reader, AllocError> {
+    /// A reader of a value that doesn't keep this of its text. It has warned of repeated keys.
+    pub(crate) fn new(alloc: Global, unkept: Unkept) -> Result<Reader, AllocError> {
+        let Unkept {
+            repeated_keys,
+            number_texts,
+        } = unkept;
         Ok(Reader {
             alloc,
-            warnings: Vec::new(alloc),
+            warnings: repeated_warnings(alloc, repeated_keys)?,
+            number_texts,
             item_keys: Guesser::new(alloc, item_keys(alloc)?),
             name_keys: Guesser::new(alloc, Vec::from_slice(alloc, NAME_KEYS)?),
             date_keys: Guesser::new(alloc, Vec::from_slice(alloc, DATE_KEYS)?),
@@ -112,6 +132,15 @@ impl Reader {
         let pointer = place.pointer(self.alloc)?;
         self.warnings.push(Warning { pointer, kind })?;
         Ok(())
+    }
+
+    /// The text of the number at a place.
+    pub(crate) fn number_text(&self, place: &Place, number: &Number) -> Result<String, AllocError> {
+        if self.number_texts.may_have(number) {
+            let pointer = place.pointer(self.alloc)?;
+            return self.number_texts.text_at(self.alloc, &pointer, number);
+        }
+        format!(in self.alloc; "{number}")
     }
 
     /// Warns of each key that no name has.

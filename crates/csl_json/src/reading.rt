@@ -9,6 +9,7 @@ ghost use Rattle.csl_json.specs.Texts.{IsErrorIn};
 use crate::fault::{ReferencesError, Wanted};
 use crate::place::Place;
 use crate::reader::{Reader, refusal};
+use crate::unkept::Unkept;
 use crate::warning::{Warning, WarningKind};
 use csl_references::reference::{Reference, References};
 use indexmap::IndexMap;
@@ -106,7 +107,18 @@ impl Reader {
 pub fn references_of(alloc: Global, value: &Value) -> Result<ReadReferences, ReferencesError>
     ensures { IfErr result (λ e. IsErrorOf e (view value.now)) }
 {
-    let mut reader = Reader::new(alloc)?;
+    references_with(alloc, value, Unkept::unknown(alloc))
+}
+
+/// The references of a JSON value that doesn't keep this of its text.
+fn references_with(
+    alloc: Global,
+    value: &Value,
+    unkept: Unkept,
+) -> Result<ReadReferences, ReferencesError>
+    ensures { IfErr result (λ e. IsErrorOf e (view value.now)) }
+{
+    let mut reader = Reader::new(alloc, unkept)?;
     let references = reader.whole(&Place::Whole, value)?;
     Ok(ReadReferences {
         references,
@@ -146,6 +158,7 @@ fn value_of(alloc: Global, bytes: &[u8]) -> Result<Value, ReferencesError>
 pub fn read_references(alloc: Global, bytes: &[u8]) -> Result<ReadReferences, ReferencesError>
     ensures { IfErr result (λ e. IsErrorIn e bytes.now) }
 {
+    let unkept = Unkept::of_bytes(alloc, bytes)?;
     let value = value_of(alloc, bytes)?;
-    references_of(alloc, &value)
+    references_with(alloc, &value, unkept)
 }

@@ -27,7 +27,7 @@ impl Reader {
         match value {
             Value::Null => Ok(None),
             Value::String(text) => Ok(Some(text.clone()?)),
-            Value::Number(number) => Ok(Some(format!(in self.alloc; "{number}")?)),
+            Value::Number(number) => Ok(Some(self.number_text(place, number)?)),
             _ => Err(refusal(self.alloc, place, value, Wanted::Text)),
         }
     }

@@ -5,6 +5,9 @@ use std::fmt;
 /// What was done with a part of the JSON.
 #[derive(Debug, Drop)]
 pub enum WarningKind {
+    /// The key stands more than once in its object, so all but the last of its values were left
+    /// out.
+    RepeatedKey,
     /// No item, name or date has this key, so it was left out.
     UnknownKey { nearest: Option<&'static str> },
     /// The item has no type, so it is a document.
@@ -19,6 +22,10 @@ pub enum WarningKind {
     NotedTwice,
     /// The texts of a list were joined with commas.
     JoinedTexts,
+    /// The text has a character as HTML has it, which is written as it stands.
+    EscapedCharacter,
+    /// Before the DOI stands what resolves it, which is written, too.
+    ResolverInDoi,
     /// The name has no parts, so it was left out.
     EmptyName,
     /// The name has a literal, so its other parts were left out.
@@ -51,6 +58,7 @@ fn write_guess<W: fmt::Write>(
 impl fmt::Display for WarningKind {
     fn fmt<W: fmt::Write>(&self, f: &mut fmt::Formatter<W>) -> fmt::Result {
         match self {
+            WarningKind::RepeatedKey => f.write_str("repeated key, the value before was replaced"),
             WarningKind::UnknownKey { nearest } => {
                 f.write_str("unknown key, left out")?;
                 write_guess(f, *nearest)
@@ -66,6 +74,12 @@ impl fmt::Display for WarningKind {
                 "the item has this variable, left out of its note",
             ),
             WarningKind::JoinedTexts => f.write_str("a list of texts, joined with commas"),
+            WarningKind::EscapedCharacter => {
+                f.write_str("`&amp;` and the like are text: JSON has `&` itself")
+            }
+            WarningKind::ResolverInDoi => {
+                f.write_str("a DOI begins with `10.`: what stands before it is written, too")
+            }
             WarningKind::EmptyName => f.write_str("a name without parts, left out"),
             WarningKind::PartsBesideLiteral => {
                 f.write_str("a name with a literal, its other parts were left out")

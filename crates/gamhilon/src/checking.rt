@@ -1,26 +1,30 @@
-//! Files are checked: styles, locale files, references and documents.
+//! Files are checked: styles, locale files, references, citations and documents.
+use crate::commands::citations_in;
 use crate::documents::document_fault;
 use crate::error::CommandError;
-use crate::files::bytes_of;
+use crate::files::{bytes_of, bytes_refused};
+use crate::items::show_item_warnings;
+use crate::json_causes::behind_mark;
 use crate::references::references_in;
-use crate::reports::{refused, refused_at, show_style_warnings, show_warning, style_refused};
+use crate::reports::{refused, show_style_warnings, show_warning, style_refused};
 use cite_command::one_line::OneLine;
-use std::alloc::{AllocError, Global};
+use serde_json::Value;
+use std::alloc::Global;
 use std::io;
 use std::process::ExitCode;
 use std::rt::Files;
 use style_file::style::StyleFile;
 use style_reader::file::{CslFile, read_file};
-use xml_reader::error::XmlError;
-use xml_reader::reader::read_bytes;
 
 /// What a file is, by how it begins.
 #[derive(Clone, Copy)]
 enum FileKind {
     /// A style or a locale file, which is XML.
     Csl,
-    /// References, which are a JSON list.
+    /// References, which are a JSON list, or stand in an object under `items`.
     References,
+    /// Citations, which are a JSON list of lists.
+    Citations,
     /// A document of `cite_run`, which is a JSON object.
     Document,
 }
@@ -65,25 +69,41 @@ fn check_file(
     path: &str,
 ) -> Result<(), CommandError> {
     let bytes = bytes_of(rt, path)?;
-    match FileKind::of_bytes(&bytes) {
+    match FileKind::of_bytes(rt.alloc(), &bytes) {
         FileKind::Csl => check_csl(rt, path, &bytes),
         FileKind::References => check_references(rt, path, &bytes),
+        FileKind::Citations => check_citations(rt, path, &bytes),
         FileKind::Document => check_document(rt, path, &bytes),
     }
 }
 
 impl FileKind {
-    fn of_bytes(bytes: &[u8]) -> FileKind {
-        for byte in bytes {
-            match *byte {
-                b'[' => return FileKind::References,
-                b'{' => return FileKind::Document,
-                // white space, and a byte order mark
-                b' ' | b'\t' | b'\n' | b'\r' | 0xef | 0xbb | 0xbf => {}
-                _ => return FileKind::Csl,
-            }
+    fn of_bytes(alloc: Global, bytes: &[u8]) -> FileKind {
+        let mut marks = bytes.iter().copied().filter(|byte| !is_space(*byte));
+        match (marks.next(), marks.next()) {
+            (Some(b'['), Some(b'[')) => FileKind::Citations,
+            (Some(b'['), _) => FileKind::References,
+            (Some(b'{'), _) if has_items(alloc, bytes) => FileKind::References,
+            (Some(b'{'), _) => FileKind::Document,
+            (Some(b'@' | b'%'), _) => FileKind::References,
+            _ => FileKind::Csl,
         }
-        FileKind::Csl
+    }
+}
+
+/// Whether a byte is white space, or of a byte order mark.
+fn is_space(byte: u8) -> bool {
+    matches!(byte, b' ' | b'\t' | b'\n' | b'\r' | 0xef | 0xbb | 0xbf)
+}
+
+/// Whether a JSON object has `items`, as references do.
+fn has_items(alloc: Global, bytes: &[u8]) -> bool {
+    let Ok(text) = str::from_utf8(behind_mark(bytes)) else {
+        return false;
+    };
+    match Value::from_str(alloc, text) {
+        Ok(value) => value.get("items").is_some(),
+        Err(_) => false,
     }
 }
 
@@ -106,18 +126,10 @@ fn check_csl_text(
 ) -> Result<(), CommandError> {
     match read_file(rt.alloc(), text) {
         Ok((file, warnings)) => {
-            show_style_warnings(rt, path, &warnings);
+            show_style_warnings(rt, path, &warnings)?;
             Ok(show_file(rt, path, &file)?)
         }
         Err(error) => Err(style_refused(rt.alloc(), path, &error)?),
-    }
-}
-
-/// Where bytes that are no UTF-8 are no XML.
-fn bytes_refused(alloc: Global, path: &str, bytes: &[u8]) -> Result<CommandError, AllocError> {
-    match read_bytes(alloc, bytes) {
-        Err(XmlError::Malformed(fault, place)) => refused_at(alloc, path, place, &fault),
-        _ => Ok(CommandError::OutOfMemory),
     }
 }
 
@@ -148,13 +160,29 @@ fn check_references(
     bytes: &[u8],
 ) -> Result<(), CommandError> {
     let read = references_in(rt.alloc(), path, bytes)?;
-    for warning in &read.warnings {
-        show_warning(rt, path, warning)?;
-    }
+    show_item_warnings(rt, path, bytes, &read.warnings)?;
     let path = OneLine(path);
     match read.references.len() {
         1 => println!(rt; "{path}: 1 reference")?,
         count => println!(rt; "{path}: {count} references")?,
+    }
+    Ok(())
+}
+
+/// Prints how many citations there are in a file.
+fn check_citations(
+    rt: &(impl Print + Eprint + AllocGlobal),
+    path: &str,
+    bytes: &[u8],
+) -> Result<(), CommandError> {
+    let read = citations_in(rt.alloc(), path, bytes)?;
+    for warning in &read.warnings {
+        show_warning(rt, path, warning)?;
+    }
+    let path = OneLine(path);
+    match read.citations.len() {
+        1 => println!(rt; "{path}: 1 citation")?,
+        count => println!(rt; "{path}: {count} citations")?,
     }
     Ok(())
 }

@@ -7,6 +7,7 @@ use crate::printing::{print_bibliography, print_citations, print_json};
 use crate::references::references_of;
 use crate::reports::{refused, show_warning};
 use crate::styles::{FoundStyle, style_of};
+use crate::unknown_ids::check_ids;
 use cite_command::arguments::{Options, OutputFormat};
 use cite_host::answer::{Answer, Document};
 use cite_host::cites::Citation;
@@ -41,7 +42,7 @@ struct Cited {
 ///
 /// Each of `CommandError` but `Usage`.
 pub(crate) fn cite(
-    rt: &(impl Files + Input + Print + Eprint + AllocGlobal),
+    rt: &(impl Files + Input + Print + Eprint + AllocGlobal + Clone + Drop),
     options: &Options,
 ) -> Result<(), CommandError> {
     print_answer(rt, options, Printed::Citations)
@@ -53,14 +54,14 @@ pub(crate) fn cite(
 ///
 /// Each of `CommandError` but `Usage`.
 pub(crate) fn bibliography(
-    rt: &(impl Files + Input + Print + Eprint + AllocGlobal),
+    rt: &(impl Files + Input + Print + Eprint + AllocGlobal + Clone + Drop),
     options: &Options,
 ) -> Result<(), CommandError> {
     print_answer(rt, options, Printed::Bibliography)
 }
 
 fn print_answer(
-    rt: &(impl Files + Input + Print + Eprint + AllocGlobal),
+    rt: &(impl Files + Input + Print + Eprint + AllocGlobal + Clone + Drop),
     options: &Options,
     printed: Printed,
 ) -> Result<(), CommandError> {
@@ -85,6 +86,7 @@ fn citations_of(
     };
     let mut citations = shown_citations(rt, path)?;
     let count = citations.len();
+    check_ids(rt.alloc(), path, &citations, references)?;
     number_notes(rt.alloc(), &mut citations)?;
     if options.lists_uncited {
         let uncited = uncited(rt.alloc(), references, &citations)?;
@@ -98,24 +100,29 @@ fn shown_citations(
     rt: &(impl Files + Input + Eprint + AllocGlobal),
     path: &str,
 ) -> Result<Vec<Citation>, CommandError> {
-    let read = citations_at(rt, path)?;
+    let bytes = bytes_of(rt, path)?;
+    let read = citations_in(rt.alloc(), path, &bytes)?;
     for warning in &read.warnings {
         show_warning(rt, path, warning)?;
     }
     Ok(read.citations)
 }
 
-/// The citations in a file.
-fn citations_at(
-    rt: &(impl Files + Input + AllocGlobal),
+/// The citations in a file of these bytes, behind a byte order mark or without one.
+///
+/// # Errors
+///
+/// `Refused` where it has none; `OutOfMemory`.
+pub(crate) fn citations_in(
+    alloc: Global,
     path: &str,
+    bytes: &[u8],
 ) -> Result<ReadCitations, CommandError> {
-    let bytes = bytes_of(rt, path)?;
-    let bytes = behind_mark(&bytes);
-    match read_citations(rt.alloc(), bytes) {
+    let bytes = behind_mark(bytes);
+    match read_citations(alloc, bytes) {
         Ok(read) => Ok(read),
         Err(CitationsError::OutOfMemory) => Err(CommandError::OutOfMemory),
-        Err(error) => Err(json_refused(rt.alloc(), path, bytes, &error)?),
+        Err(error) => Err(json_refused(alloc, path, bytes, &error)?),
     }
 }
 

@@ -26,6 +26,11 @@ pub(crate) enum CommandError {
         place: Option<Place>,
         why: String,
     },
+    /// Cites in a file are of items that aren't there: a line for each.
+    UnknownIds {
+        path: String,
+        lines: Vec<String>,
+    },
     Answer(AnswerError),
     /// The document in a file has no answer, though it is of its form.
     Document {
@@ -42,7 +47,7 @@ impl CommandError {
     pub fn status(&self) -> u8 {
         match self {
             CommandError::Unreadable { .. } | CommandError::Output => 1,
-            CommandError::Refused { .. } => 2,
+            CommandError::Refused { .. } | CommandError::UnknownIds { .. } => 2,
             CommandError::Answer(error) => answer_status(error),
             CommandError::Document { why, .. } => why.status(),
             CommandError::OutOfMemory => 5,
@@ -112,6 +117,7 @@ impl fmt::Display for CommandError {
                 }
                 write!(f, " error: {why}")
             }
+            CommandError::UnknownIds { path, lines } => write_lines(f, path.as_str(), lines),
             CommandError::Answer(error) => write!(f, "gamhilon: {error}"),
             CommandError::Document { path, why } => {
                 let path = OneLine(path.as_str());
@@ -121,6 +127,22 @@ impl fmt::Display for CommandError {
             CommandError::OutOfMemory => f.write_str("gamhilon: out of memory"),
         }
     }
+}
+
+/// Writes an error for each line on a file.
+fn write_lines<W: fmt::Write>(
+    f: &mut fmt::Formatter<W>,
+    path: &str,
+    lines: &[String],
+) -> fmt::Result {
+    let path = OneLine(path);
+    let mut before = "";
+    for line in lines {
+        let line = OneLine(line.as_str());
+        write!(f, "{before}{path}: error: {line}")?;
+        before = "\n";
+    }
+    Ok(())
 }
 
 /// Writes the names of the styles that are built in.

@@ -1,18 +1,17 @@
 //! Files are read.
 use crate::error::CommandError;
-use crate::reports::refused;
+use crate::reports::refused_at;
 use std::alloc::{AllocError, Global};
 use std::io::Read;
 use std::rt::Files;
 use std::{fs, io};
-
-/// How many reads of the standard input are made at most.
-const READS: usize = 1_048_576;
+use xml_reader::error::XmlError;
+use xml_reader::reader::read_bytes;
 
 /// How many bytes one read gives at most.
 const READ_LENGTH: usize = 65_536;
 
-/// The text of a file; `-` is the standard input.
+/// The text of a file of XML; `-` is the standard input.
 ///
 /// # Errors
 ///
@@ -24,11 +23,31 @@ pub(crate) fn text_of(
     let bytes = bytes_of(rt, path)?;
     match str::from_utf8(&bytes) {
         Ok(text) => Ok(String::from_str(rt.alloc(), text)?),
-        Err(error) => {
-            let byte = error.valid_up_to();
-            let why = format!(in rt.alloc(); "no UTF-8 from byte {byte}")?;
-            Err(refused(rt.alloc(), path, &why)?)
-        }
+        Err(_) => Err(bytes_refused(rt.alloc(), path, &bytes)?),
+    }
+}
+
+/// Where bytes that are no UTF-8 are no XML.
+///
+/// # Errors
+///
+/// Where memory is refused.
+pub(crate) fn bytes_refused(
+    alloc: Global,
+    path: &str,
+    bytes: &[u8],
+) -> Result<CommandError, AllocError> {
+    match read_bytes(alloc, bytes) {
+        Err(XmlError::Malformed(fault, place)) => refused_at(alloc, path, place, &fault),
+        _ => Ok(CommandError::OutOfMemory),
+    }
+}
+
+/// Whether there is no file of this path.
+pub(crate) fn is_absent(rt: &(impl Files + AllocGlobal), path: &str) -> bool {
+    match fs::read(rt, path) {
+        Ok(_) => false,
+        Err(error) => error.kind() == io::ErrorKind::NotFound,
     }
 }
 
@@ -71,7 +90,7 @@ fn read_input<R: Read>(alloc: Global, reader: &mut R) -> io::Result<Vec<u8>> {
 /// All that a reader has left, by reads into a buffer that isn't empty.
 fn read_by<R: Read>(alloc: Global, reader: &mut R, buffer: &mut [u8]) -> io::Result<Vec<u8>> {
     let mut bytes = Vec::new(alloc);
-    for _ in 0..READS {
+    for _ in 0..u64::MAX {
         let count = reader.read(buffer)?;
         if count == 0 {
             return Ok(bytes);

@@ -1,9 +1,11 @@
 //! Why a file is no JSON though it may look like it.
 use crate::error::CommandError;
-use crate::reports::refused;
+use crate::json_syntax::TextPlace;
+use crate::reports::{refused, refused_at};
 use serde_json::Value;
 use std::alloc::{AllocError, Global};
 use std::fmt;
+use xml_reader::error::Place;
 
 /// The byte order mark, U+FEFF, in UTF-8.
 const BYTE_ORDER_MARK: &[u8] = b"\xef\xbb\xbf";
@@ -19,7 +21,8 @@ pub(crate) fn behind_mark(bytes: &[u8]) -> &[u8] {
     }
 }
 
-/// What is wrong with a file of JSON of which its reader tells this.
+/// What is wrong with a file of JSON of which its reader tells this: at a line and a column, where
+/// it is no UTF-8 or no JSON.
 ///
 /// # Errors
 ///
@@ -30,10 +33,52 @@ pub(crate) fn json_refused<W: fmt::Display>(
     bytes: &[u8],
     why: &W,
 ) -> Result<CommandError, AllocError> {
-    match json_cause(alloc, bytes)? {
-        Some(cause) => refused(alloc, path, &cause),
-        None => refused(alloc, path, why),
+    if let Some(cause) = json_cause(alloc, bytes)? {
+        return refused(alloc, path, &cause);
     }
+    match str::from_utf8(bytes) {
+        Ok(text) => text_refused(alloc, path, text, why),
+        Err(error) => refused_at(alloc, path, place_of_byte(bytes, error.valid_up_to()), why),
+    }
+}
+
+/// The line and the column, in characters, of a byte up to which the bytes are UTF-8.
+fn place_of_byte(bytes: &[u8], offset: usize) -> Place {
+    let before = behind_mark(bytes.get(..offset).unwrap_or(&[]));
+    let before = str::from_utf8(before).unwrap_or("");
+    TextPlace::at_byte(before, before.len()).place()
+}
+
+/// What is wrong with a text of which its reader tells this.
+fn text_refused<W: fmt::Display>(
+    alloc: Global,
+    path: &str,
+    text: &str,
+    why: &W,
+) -> Result<CommandError, AllocError> {
+    match Value::from_str(alloc, text) {
+        Ok(_) => refused(alloc, path, why),
+        Err(error) if error.is_memory() => Ok(CommandError::OutOfMemory),
+        Err(error) if error.is_eof() => {
+            syntax_refused(alloc, path, TextPlace::at_byte(text, text.len()))
+        }
+        Err(error) => {
+            let place = TextPlace::at_column(text, error.line(), error.column());
+            syntax_refused(alloc, path, place.earlier_fault(text).unwrap_or(place))
+        }
+    }
+}
+
+fn syntax_refused(
+    alloc: Global,
+    path: &str,
+    place: TextPlace<'_>,
+) -> Result<CommandError, AllocError> {
+    let fault = place.fault();
+    let line = place.excerpt(alloc)?;
+    let line = line.as_str();
+    let why = format!(in alloc; "no JSON: {fault}: `{line}`")?;
+    refused_at(alloc, path, place.place(), &why)
 }
 
 /// Why bytes are no JSON, where they begin with a byte order mark or nest too deep: the reader

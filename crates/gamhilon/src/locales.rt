@@ -1,7 +1,7 @@
 //! The locale files of a command.
 use crate::error::CommandError;
-use crate::files::text_of;
-use crate::reports::{show_style_warnings, style_refused};
+use crate::files::{is_absent, text_of};
+use crate::reports::{show_style_warnings, show_warning, style_refused};
 use cite_command::arguments::Options;
 use cite_command::one_line::OneLine;
 use english_locale::words::ENGLISH;
@@ -18,8 +18,9 @@ const LOCALES: &str = "/usr/share/citation-style-language/locales";
 const BUILT_IN: &str = "en-US";
 
 /// The locale files in which words of a language are looked for (CSL 1.0.2, "Locale Fallback"). A
-/// file that can't be read is left out, and where none of the language is left, a warning says so;
-/// in place of that of American English are the words that are built in.
+/// file that isn't there is left out, and so is one that can't be read, of which a warning says so, as
+/// where none of the language is left; in place of that of American English are the words that are
+/// built in.
 ///
 /// # Errors
 ///
@@ -61,10 +62,23 @@ fn locale_of(
     let path = format!(in rt.alloc(); "{folder}/locales-{tag}.xml")?;
     match text_of(rt, path.as_str()) {
         Ok(text) => Ok(Some(locale_in(rt, path.as_str(), text.as_str())?)),
-        Err(CommandError::Unreadable { .. }) if is_built_in => Ok(Some(built_in(rt.alloc())?)),
-        Err(CommandError::Unreadable { .. }) => Ok(None),
+        Err(CommandError::Unreadable { path, why }) => {
+            if !is_absent(rt, path.as_str()) {
+                let why = format!(in rt.alloc(); "can't be read, left out: {why}")?;
+                show_warning(rt, path.as_str(), &why)?;
+            }
+            unread_locale(rt.alloc(), is_built_in)
+        }
         Err(error) => Err(error),
     }
+}
+
+/// What is in the place of a locale file that isn't read.
+fn unread_locale(alloc: Global, is_built_in: bool) -> Result<Option<LocaleFile>, CommandError> {
+    if is_built_in {
+        return Ok(Some(built_in(alloc)?));
+    }
+    Ok(None)
 }
 
 /// The locale in the text of a file. What is odd in it is printed.
@@ -75,7 +89,7 @@ fn locale_in(
 ) -> Result<LocaleFile, CommandError> {
     match read_locale(rt.alloc(), text) {
         Ok((file, warnings)) => {
-            show_style_warnings(rt, path, &warnings);
+            show_style_warnings(rt, path, &warnings)?;
             Ok(file)
         }
         Err(error) => Err(style_refused(rt.alloc(), path, &error)?),

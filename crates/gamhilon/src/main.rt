@@ -10,13 +10,17 @@ mod document_error;
 mod documents;
 mod error;
 mod files;
+mod items;
 mod json_causes;
+mod json_syntax;
 mod locales;
+mod near_styles;
 mod packaged;
 mod printing;
 mod references;
 mod reports;
 mod styles;
+mod unknown_ids;
 
 use cite_command::arguments::Command;
 use cite_command::error::UsageError;
@@ -38,7 +42,7 @@ fn main(rt: HostRuntime) -> ExitCode {
 
 /// Does what the words of the command line say, and gives the exit status.
 fn run(
-    rt: &(impl Files + Env + Input + Print + Eprint + AllocGlobal),
+    rt: &(impl Files + Env + Input + Print + Eprint + AllocGlobal + Clone + Drop),
 ) -> Result<ExitCode, CommandError> {
     match command(rt)? {
         Command::Show(text) => print!(rt; "{}", text.as_str())?,

@@ -1,8 +1,9 @@
 //! The references of a command.
 use crate::error::CommandError;
 use crate::files::bytes_of;
+use crate::items::{is_bibtex, item_refused, show_item_warnings};
 use crate::json_causes::{behind_mark, json_refused};
-use crate::reports::show_warning;
+use crate::reports::{refused, show_warning};
 use cite_command::arguments::Options;
 use csl_json::fault::ReferencesError;
 use csl_json::reading::{ReadReferences, read_references};
@@ -10,6 +11,10 @@ use csl_references::reference::References;
 use indexmap::IndexMap;
 use std::alloc::Global;
 use std::rt::Files;
+
+/// What a file of BibTeX is, and what makes CSL-JSON of it.
+const BIBTEX: &str = "this is BibTeX or BibLaTeX; `python3 -m gamhilon entries library.bib > \
+    library.json` makes CSL-JSON of it";
 
 /// The references of all files, in their order. What is odd in them is printed; of items with the
 /// same id the last stays.
@@ -25,9 +30,7 @@ pub(crate) fn references_of(
     for path in &options.references {
         let bytes = bytes_of(rt, path.as_str())?;
         let read = references_in(rt.alloc(), path.as_str(), &bytes)?;
-        for warning in &read.warnings {
-            show_warning(rt, path.as_str(), warning)?;
-        }
+        show_item_warnings(rt, path.as_str(), &bytes, &read.warnings)?;
         add_all(rt, path.as_str(), &mut references, read.references)?;
     }
     Ok(references)
@@ -47,6 +50,8 @@ pub(crate) fn references_in(
     match read_references(alloc, bytes) {
         Ok(read) => Ok(read),
         Err(ReferencesError::OutOfMemory) => Err(CommandError::OutOfMemory),
+        Err(ReferencesError::Fault(fault)) => Err(item_refused(alloc, path, bytes, &fault)?),
+        Err(_) if is_bibtex(bytes) => Err(refused(alloc, path, &BIBTEX)?),
         Err(error) => Err(json_refused(alloc, path, bytes, &error)?),
     }
 }

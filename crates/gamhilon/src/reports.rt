@@ -61,12 +61,23 @@ pub(crate) fn style_refused(
 }
 
 /// Prints what is odd in a style file or a locale file. A line that can't be printed is left out.
-pub(crate) fn show_style_warnings(rt: &impl Eprint, path: &str, warnings: &[Warning]) {
+///
+/// # Errors
+///
+/// Where memory is refused.
+pub(crate) fn show_style_warnings(
+    rt: &(impl Eprint + AllocGlobal),
+    path: &str,
+    warnings: &[Warning],
+) -> Result<(), AllocError> {
     let path = OneLine(path);
     for warning in warnings {
         let Place { line, column } = warning.place;
-        let _ = eprintln!(rt; "{path}:{line}:{column}: warning: {warning}");
+        let text = format!(in rt.alloc(); "{warning}")?;
+        let text = OneLine(text.as_str());
+        let _ = eprintln!(rt; "{path}:{line}:{column}: warning: {text}");
     }
+    Ok(())
 }
 
 /// Prints what is odd in a JSON file. A line that can't be printed is left out.

@@ -1,11 +1,13 @@
 //! The style of a command.
 use crate::error::CommandError;
-use crate::files::text_of;
+use crate::files::{is_absent, text_of};
+use crate::near_styles::near_style;
 use crate::reports::{refused, show_style_warnings, style_refused};
 use cite_command::arguments::Options;
 use packaged_styles::styles::style_named;
+use std::alloc::AllocError;
+use std::fs;
 use std::rt::Files;
-use std::{fs, io};
 use style_file::style::{CslStyle, DependentStyle, StyleFile};
 use style_reader::file::read_style;
 
@@ -47,7 +49,7 @@ impl FoundStyle {
 /// Those of `text_of`; `Refused` where it is no style, or depends on one that can't be read, or
 /// that depends on another itself.
 pub(crate) fn style_of(
-    rt: &(impl Files + Input + Eprint + AllocGlobal),
+    rt: &(impl Files + Input + Eprint + AllocGlobal + Clone + Drop),
     options: &Options,
 ) -> Result<FoundStyle, CommandError> {
     let name = options.style.as_str();
@@ -58,13 +60,44 @@ pub(crate) fn style_of(
             return packaged(rt, name, text);
         }
     }
-    match style_at(rt, path.as_str())? {
-        StyleFile::Independent(style) => Ok(FoundStyle {
+    match style_at(rt, path.as_str()) {
+        Ok(StyleFile::Independent(style)) => Ok(FoundStyle {
             style,
             language: None,
         }),
-        StyleFile::Dependent(dependent) => parent_of(rt, folder, path.as_str(), dependent),
+        Ok(StyleFile::Dependent(dependent)) => parent_of(rt, folder, path.as_str(), dependent),
+        Err(CommandError::Unreadable { path, why }) => Err(no_style(rt, folder, name, path, why)?),
+        Err(error) => Err(error),
     }
+}
+
+/// The error of a style that can't be read, with a guess at which one was meant where it was told
+/// by a name.
+fn no_style<R: Files + AllocGlobal + Clone + Drop>(
+    rt: &R,
+    folder: &str,
+    name: &str,
+    path: String,
+    why: String,
+) -> Result<CommandError, AllocError> {
+    let near = if is_path(name) {
+        None
+    } else {
+        near_style(rt, folder, name)?
+    };
+    let why = match near {
+        Some(near) => {
+            let (near, why) = (near.as_str(), why.as_str());
+            format!(in rt.alloc(); "{why}; is it `{near}`?")?
+        }
+        None => why,
+    };
+    Ok(CommandError::Unreadable { path, why })
+}
+
+/// Whether a style is told by its path.
+fn is_path(style: &str) -> bool {
+    style.ends_with(".csl") || style.contains('/') || style == "-"
 }
 
 /// The style of this name that is built in, of which this is the file.
@@ -85,14 +118,6 @@ fn packaged(
     }
 }
 
-/// Whether there is no file of this path.
-fn is_absent(rt: &(impl Files + AllocGlobal), path: &str) -> bool {
-    match fs::read(rt, path) {
-        Ok(_) => false,
-        Err(error) => error.kind() == io::ErrorKind::NotFound,
-    }
-}
-
 /// Where a style is that is told by its name or its path.
 fn style_path(
     rt: &(impl Files + AllocGlobal),
@@ -100,7 +125,7 @@ fn style_path(
     style: &str,
 ) -> Result<String, CommandError> {
     let alloc = rt.alloc();
-    if style.ends_with(".csl") || style.contains('/') || style == "-" {
+    if is_path(style) {
         return Ok(String::from_str(alloc, style)?);
     }
     let path = format!(in alloc; "{folder}/{style}.csl")?;
@@ -131,7 +156,7 @@ fn style_in(
 ) -> Result<StyleFile, CommandError> {
     match read_style(rt.alloc(), text) {
         Ok((style, warnings)) => {
-            show_style_warnings(rt, path, &warnings);
+            show_style_warnings(rt, path, &warnings)?;
             Ok(style)
         }
         Err(error) => Err(style_refused(rt.alloc(), path, &error)?),

@@ -169,13 +169,40 @@ pub fn number(
     let Some(attribute) = attribute(element, name) else {
         return Ok(None);
     };
-    match attribute.value.as_str().trim().parse::<u32>() {
+    let text = attribute.value.as_str();
+    match text.trim().parse::<u32>() {
         Ok(number) if number >= least => Ok(Some(number)),
         _ => Err(Stop::at(
             alloc,
             attribute.offset,
-            attribute.value.as_str(),
-            Wanted::Number { least },
+            text,
+            wanted_number(text.trim(), least),
         )),
     }
+}
+
+/// What is wanted in place of a text that is no number, of at least this.
+fn wanted_number(text: &str, least: u32) -> Wanted {
+    let is_number = !text.is_empty() && text.bytes().all(|byte| byte.is_ascii_digit());
+    if is_number && text.parse::<u32>().is_err() {
+        return Wanted::SmallerNumber { most: u32::MAX };
+    }
+    Wanted::Number { least }
+}
+
+/// The language tag that an attribute is.
+pub fn language_tag(alloc: Global, element: &Element, name: &str) -> Result<Option<String>, Stop> {
+    let Some(attribute) = attribute(element, name) else {
+        return Ok(None);
+    };
+    let tag = attribute.value.as_str();
+    if !tag.chars().all(is_of_tag) {
+        return Err(Stop::at(alloc, attribute.offset, tag, Wanted::LanguageTag));
+    }
+    Ok(Some(attribute.value.clone()?))
+}
+
+/// Whether a language tag may have a character; some have an underscore for a hyphen.
+fn is_of_tag(c: char) -> bool {
+    c.is_ascii_alphanumeric() || matches!(c, '-' | '_')
 }

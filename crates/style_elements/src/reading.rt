@@ -1,9 +1,13 @@
 //! What stays with a reader on its way through a file.
+use crate::attributes::nearest_row;
 use crate::macros::MacroTable;
-use std::alloc::Global;
+use std::alloc::{AllocError, Global};
 use style_faults::fault::Wanted;
 use style_faults::stop::Stop;
 use style_faults::warning::{Note, Oddity};
+
+/// For how many notes it is guessed what was meant.
+const MOST_GUESSES: usize = 1_000;
 
 /// What stays with a reader on its way through a file.
 #[derive(Drop)]
@@ -21,6 +25,23 @@ impl<'t> Reading<'t> {
             macros,
             notes: Vec::new(alloc),
         }
+    }
+
+    /// Whether it may be guessed what an unknown word was meant to be.
+    pub fn may_guess(&self) -> bool {
+        self.notes.len() < MOST_GUESSES
+    }
+
+    /// The name of a row that is nearest to an unknown word; none where there were enough guesses.
+    pub fn nearest_row<T>(
+        &self,
+        word: &str,
+        rows: &[(&'static str, T)],
+    ) -> Result<Option<&'static str>, AllocError> {
+        if !self.may_guess() {
+            return Ok(None);
+        }
+        nearest_row(self.alloc, word, rows)
     }
 
     /// Something odd was found at this offset.

@@ -420,9 +420,14 @@ fn check_attribute(
     if shape.has_attribute(name) || name == "xmlns" || name.contains(':') {
         return Ok(());
     }
+    let nearest = if reading.may_guess() {
+        shape.nearest_attribute(reading.alloc, name)?
+    } else {
+        None
+    };
     let oddity = Oddity::Attribute {
         element: shape.name,
-        nearest: shape.nearest_attribute(reading.alloc, name)?,
+        nearest,
     };
     reading.note(attribute.offset, name, oddity)
 }

@@ -1,5 +1,4 @@
 //! Words that name variables, item types, locator types and terms.
-use crate::attributes::nearest_row;
 use crate::reading::Reading;
 use csl_vocabulary::item_type::{ITEM_TYPES, ItemType};
 use csl_vocabulary::locator::{LOCATOR_TYPES, LocatorType};
@@ -8,7 +7,7 @@ use csl_vocabulary::variable::{
     DATE_VARIABLES, DateVariable, NAME_VARIABLES, NUMBER_VARIABLES, NameVariable, NumberVariable,
     TEXT_VARIABLES, Variable,
 };
-use std::alloc::{AllocError, Global};
+use std::alloc::AllocError;
 use style_faults::fault::{VariableKinds, Wanted};
 use style_faults::nearest::Nearest;
 use style_faults::stop::Stop;
@@ -22,15 +21,18 @@ pub fn variable(
 ) -> Result<Option<Variable>, Stop> {
     let found = Variable::of_name(word);
     if found.is_none() {
-        let nearest = nearest_variable(reading.alloc, word)?;
+        let nearest = nearest_variable(reading, word)?;
         unknown(reading, offset, word, WordKind::Variable, nearest)?;
     }
     Ok(found)
 }
 
-/// The name of a variable that is nearest to a word.
-fn nearest_variable(alloc: Global, word: &str) -> Result<Option<&'static str>, AllocError> {
-    let mut nearest = Nearest::new(alloc, word);
+/// The name of a variable that is nearest to a word; none where there were enough guesses.
+fn nearest_variable(reading: &Reading<'_>, word: &str) -> Result<Option<&'static str>, AllocError> {
+    if !reading.may_guess() {
+        return Ok(None);
+    }
+    let mut nearest = Nearest::new(reading.alloc, word);
     for row in TEXT_VARIABLES {
         nearest.consider(row.0)?;
     }
@@ -98,7 +100,7 @@ pub fn item_type(
 ) -> Result<Option<ItemType>, Stop> {
     let found = ItemType::of_name(word);
     if found.is_none() {
-        let nearest = nearest_row(reading.alloc, word, ITEM_TYPES)?;
+        let nearest = reading.nearest_row(word, ITEM_TYPES)?;
         unknown(reading, offset, word, WordKind::ItemType, nearest)?;
     }
     Ok(found)
@@ -112,7 +114,7 @@ pub fn locator_type(
 ) -> Result<Option<LocatorType>, Stop> {
     let found = LocatorType::of_name(word);
     if found.is_none() {
-        let nearest = nearest_row(reading.alloc, word, LOCATOR_TYPES)?;
+        let nearest = reading.nearest_row(word, LOCATOR_TYPES)?;
         unknown(reading, offset, word, WordKind::LocatorType, nearest)?;
     }
     Ok(found)
@@ -126,7 +128,7 @@ pub fn term_name(
 ) -> Result<Option<TermName>, Stop> {
     let found = TermName::of_name(word);
     if found.is_none() {
-        let nearest = nearest_row(reading.alloc, word, PLAIN_TERMS)?;
+        let nearest = reading.nearest_row(word, PLAIN_TERMS)?;
         unknown(reading, offset, word, WordKind::Term, nearest)?;
     }
     Ok(found)

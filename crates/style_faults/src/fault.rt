@@ -43,6 +43,12 @@ pub enum Wanted {
     Number {
         least: u32,
     },
+    /// A whole number, of at most this.
+    SmallerNumber {
+        most: u32,
+    },
+    /// A language tag: letters, digits and hyphens.
+    LanguageTag,
     /// A variable of one of these kinds.
     VariableOf(VariableKinds),
     /// The name of a macro.
@@ -124,6 +130,8 @@ impl fmt::Display for Wanted {
                 write_nearest(f, nearest)
             }
             Wanted::Number { least } => write!(f, "a whole number, {least} or more"),
+            Wanted::SmallerNumber { most } => write!(f, "a whole number, {most} or less"),
+            Wanted::LanguageTag => f.write_str("a language tag, as `en-GB`"),
             Wanted::VariableOf(kinds) => write!(f, "{kinds}"),
             Wanted::Macro { nearest: None } => f.write_str("the name of a macro"),
             Wanted::Macro {

@@ -1,6 +1,6 @@
 //! What a style says of itself.
 use std::alloc::Global;
-use style_elements::attributes::{attribute, named, nearest_row, needed, row_value, text};
+use style_elements::attributes::{attribute, named, needed, row_value, text};
 use style_elements::children::{child_text, csl_name, needed_child, needed_text};
 use style_elements::reading::Reading;
 use style_elements::tables::{CITATION_FORMATS, FIELDS, LINK_RELATIONS};
@@ -125,7 +125,7 @@ fn relation_of(rel: &Attribute, reading: &mut Reading<'_>) -> Result<Option<Link
     let word = rel.value.as_str();
     let relation = row_value(LINK_RELATIONS, word);
     if relation.is_none() {
-        let nearest = nearest_row(reading.alloc, word, LINK_RELATIONS)?;
+        let nearest = reading.nearest_row(word, LINK_RELATIONS)?;
         unknown(reading, rel.offset, word, WordKind::LinkRelation, nearest)?;
     }
     Ok(relation)
@@ -159,7 +159,7 @@ fn field_of(attribute: &Attribute, reading: &mut Reading<'_>) -> Result<Option<C
     let word = attribute.value.as_str();
     let field = row_value(FIELDS, word);
     if field.is_none() {
-        let nearest = nearest_row(reading.alloc, word, FIELDS)?;
+        let nearest = reading.nearest_row(word, FIELDS)?;
         unknown(reading, attribute.offset, word, WordKind::Field, nearest)?;
     }
     Ok(field.map(Category::Field))

@@ -5,7 +5,7 @@ use crate::locale::style_locales;
 use crate::names::inherited_options;
 use crate::sections::{bibliography_of, citation_of};
 use std::alloc::Global;
-use style_elements::attributes::{attribute, named, needed, needed_value, text, truth};
+use style_elements::attributes::{attribute, language_tag, named, needed, needed_value, truth};
 use style_elements::children::{csl_name, needed_child, only_child};
 use style_elements::reading::Reading;
 use style_elements::shape::{MACRO, STYLE, check};
@@ -85,7 +85,7 @@ fn dependent_of(
     reading: &mut Reading<'_>,
 ) -> Result<DependentStyle, Stop> {
     let info = info_of(root, reading)?;
-    let default_locale = text(reading.alloc, root, "default-locale")?;
+    let default_locale = language_tag(reading.alloc, root, "default-locale")?;
     Ok(DependentStyle {
         info,
         default_locale,
@@ -100,7 +100,7 @@ fn independent_of(root: &Element, reading: &mut Reading<'_>) -> Result<CslStyle,
     let info = info_of(root, reading)?;
     let names = inherited_options(reading.alloc, root)?;
     let parts = parts_of(root, reading)?;
-    let default_locale = text(reading.alloc, root, "default-locale")?;
+    let default_locale = language_tag(reading.alloc, root, "default-locale")?;
     let StyleParts {
         locales,
         macros,
