@@ -2,6 +2,8 @@
 line is the folder of the files, and a line that ends with … may go on in other words: those of the
 readers, which have tests of their own. docs/WRITER.md says what the lines are made of; the places
 are counted by hand."""
+import json
+import os
 
 STYLE = ('<style xmlns="http://purl.org/net/xbiblio/csl" class="in-text" version="1.0">\n'
          '<info><title>T</title><id>T</id><updated>2026-01-01T00:00:00+00:00</updated></info>\n'
@@ -24,7 +26,27 @@ DEPENDENT = ('<style xmlns="http://purl.org/net/xbiblio/csl" version="1.0"><info
 MARK = b'\xef\xbb\xbf'
 # Lists that nest one level too deep: the reader stops behind the bracket that opens it.
 DEEP = '[' * 128 + ']' * 128
-PAGE = '<!DOCTYPE html>\n<html>\n<head>\n<meta charset="utf-8">\n<title>References</title>\n</head>\n<body>\n%s</body>\n</html>\n'
+# The style sheet of the Python package, which pages have.
+SHEET = open(os.path.join(os.path.dirname(os.path.abspath(__file__)), '../../embed/python/src/gamhilon/gamhilon.css'),
+             encoding='utf-8').read()
+LIST = ('<div id="refs" class="references csl-bib-body%s" style="--csl-line-spacing: %s; --csl-entry-spacing: %s">\n%s</div>\n')
+BOTH = ('<section class="citations">\n<p class="citation">A</p>\n</section>\n<section class="bibliography">\n%s</section>\n'
+        % (LIST % ('', 1, 1, '<div id="ref-a" class="csl-entry">A</div>\n')))
+
+
+def page(title, content, language='en-US', direction='ltr'):
+    """A whole page of HTML."""
+    return ('<!DOCTYPE html>\n<html lang="%s" dir="%s">\n<head>\n<meta charset="utf-8">\n'
+            '<meta name="viewport" content="width=device-width, initial-scale=1">\n<title>%s</title>\n<style>\n%s</style>\n'
+            '</head>\n<body>\n%s</body>\n</html>\n' % (language, direction, title, SHEET, content))
+
+
+# A style that sets the first field of each item apart, and items whose ids an id of HTML can't be.
+LAID_OUT = STYLE.replace('</style>', '<bibliography hanging-indent="true" second-field-align="flush" line-spacing="2" entry-spacing="0">'
+                         '<layout><text variable="publisher"/><text variable="title"/></layout></bibliography></style>')
+ODD_ANCHORS = [('ref-a__20_b', 'A'), ('ref-a__5f__b', 'B'), ('ref-a_b', 'C'), ('ref-__22___3e_', 'D'), ('ref-__fc_ber', 'E')]
+ODD_IDS = json.dumps([{'id': key, 'type': 'book', 'publisher': publisher, 'title': 'T'} for key, publisher in
+                      (('a b', 'A'), ('a__b', 'B'), ('a_b', 'C'), ('">', 'D'), ('über', 'E'))])
 
 
 def ring():
@@ -88,7 +110,7 @@ TWO = {'s.csl': style_of('<text variable="title"/>'), 'c.json': '[[{"id": "b"}]]
 
 FAULTS = [
     # Command lines
-    usage('no word', "'gamhilon' requires a subcommand but one was not provided [subcommands: cite, bibliography, render, check, styles, help]"),
+    usage('no word', "'gamhilon' requires a subcommand but one was not provided [subcommands: cite, bibliography, render, check, styles, css, help]"),
     usage('an unknown command', "unrecognized subcommand 'print'", 'print'),
     usage('a command that is nearly one', "unrecognized subcommand 'cited'; tip: a similar subcommand exists: 'cite'", 'cited'),
     usage('no style', 'the following required arguments were not provided: --style <STYLE>', 'cite', 'FILE/r.json', 'FILE/c.json'),
@@ -239,9 +261,26 @@ FAULTS = [
     Fault('a name of such a style', ['cite', '--styles', 'FILE', '--style', 'd', 'FILE/r.json', 'FILE/c.json'], 0, [],
           {'dependent/d.csl': DEPENDENT}, out='A\n'),
     Fault('a page of HTML', ['cite', '--style', 'FILE/s.csl', '--to', 'html', '--standalone', 'FILE/r.json', 'FILE/c.json'], 0, [],
-          out=PAGE % '<p>A</p>\n'),
+          out=page('Citations', '<p class="citation">A</p>\n')),
     Fault('a page of HTML where no format is told', ['bibliography', '--style', 'FILE/s.csl', '--standalone', 'FILE/r.json'], 0, [],
-          {'s.csl': style_of('')}, out=PAGE % '<div class="csl-bib-body">\n<div class="csl-entry">A</div>\n</div>\n'),
+          {'s.csl': style_of('')}, out=page('References', LIST % ('', 1, 1, '<div id="ref-a" class="csl-entry">A</div>\n'))),
+    Fault('a page whose style lays its list out', ['bibliography', '--style', 'FILE/s.csl', '--standalone', 'FILE/r.json'], 0, [],
+          {'s.csl': LAID_OUT, 'r.json': ODD_IDS}, out=page('References', LIST % (' hanging-indent second-field-align-flush', 2, 0, ''.join(
+              '<div id="%s" class="csl-entry"><div class="csl-left-margin">%s</div><div class="csl-right-inline">T</div></div>\n'
+              % (anchor, title) for anchor, title in ODD_ANCHORS)))),
+    Fault('citations and the bibliography', ['cite', '--with-bibliography', '--style', 'FILE/s.csl', 'FILE/r.json', 'FILE/c.json'], 0, [],
+          {'s.csl': style_of('')}, out='A\n\nA\n'),
+    Fault('citations and no bibliography', ['cite', '--with-bibliography', '--style', 'FILE/s.csl', 'FILE/r.json', 'FILE/c.json'], 0,
+          ['gamhilon: warning: the style has no bibliography'], out='A\n'),
+    Fault('a page of both', ['cite', '--with-bibliography', '--style', 'FILE/s.csl', '--standalone', 'FILE/r.json', 'FILE/c.json'], 0, [],
+          {'s.csl': style_of('')}, out=page('Citations', BOTH)),
+    Fault('HTML of both', ['cite', '--with-bibliography', '--style', 'FILE/s.csl', '--to', 'html', 'FILE/r.json', 'FILE/c.json'], 0, [],
+          {'s.csl': style_of('')}, out=BOTH),
+    Fault('a page from right to left', ['cite', '--style', 'FILE/s.csl', '--locale', 'ar', '--locales', 'FILE', '--standalone', 'FILE/r.json',
+                                        'FILE/c.json'], 0, [], {'locales-ar.xml': LOCALE.replace('de-DE', 'ar')},
+          out=page('Citations', '<p class="citation">A</p>\n', 'ar', 'rtl')),
+    Fault('a page in what is no language', ['cite', '--style', 'FILE/s.csl', '--locale', '"', '--standalone', 'FILE/r.json', 'FILE/c.json'],
+          0, ['…'], out=page('Citations', '<p class="citation">A</p>\n', 'und')),
     Fault('a language', ['cite', '--style', 'FILE/s.csl', '--locale', 'de-DE', '--locales', 'FILE', 'FILE/r.json', 'FILE/c.json'], 0, [],
           {'s.csl': style_of('<text term="and"/>'), 'locales-de-DE.xml': LOCALE}, out='und\n'),
     Fault('a language without a file', ['cite', '--style', 'FILE/s.csl', '--locale', 'de-DE', '--locales', 'FILE', 'FILE/r.json', 'FILE/c.json'],

@@ -30,7 +30,7 @@ sys.path.append(os.path.dirname(HERE))
 import pandoc
 import runs
 from cases import CASES
-from faults import CITATIONS, FAULTS, REFERENCES, STYLE
+from faults import CITATIONS, FAULTS, REFERENCES, SHEET, STYLE
 from mutations import is_told, mutated_files
 from runs import Failed, compiled, count, grows_evenly, processor_time
 
@@ -152,6 +152,13 @@ def try_names(program):
     status, out, error = ended(program, 'styles')
     if status or error or out.splitlines() != names:
         raise Failed('status %d, %r, %r' % (status, out, error))
+
+
+def try_sheet(program):
+    """The style sheet that is built in is that of the Python package, byte for byte."""
+    status, out, error = ended(program, 'css')
+    if status or error or out != SHEET:
+        raise Failed('status %d, %r, %r' % (status, out[:80], error))
 
 
 def try_built_in(program, path):
@@ -319,7 +326,8 @@ def tests_of(options):
         built_in = name_of(pandoc.STYLES[0])
         tests.append(('%s in %s, which is built in' % (name, built_in), try_document, document, built_in,
                       recorded[name][built_in + '.csl']))
-    tests += [('names of styles', try_names), *[('built in: ' + name_of(path), try_built_in, path) for path in pandoc.STYLES]]
+    tests += [('names of styles', try_names), ('style sheet', try_sheet)]
+    tests += [('built in: ' + name_of(path), try_built_in, path) for path in pandoc.STYLES]
     tests += [('rendered: ' + os.path.relpath(base, ROOT), try_rendered, base) for base in bases_of('examples', 'tests/documents/rows')]
     tests.append(('rendered as JSON', try_rendered_json))
     for verb, path in zip(('cite', 'bibliography', 'cite'), pandoc.STYLES):

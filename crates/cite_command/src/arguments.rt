@@ -15,6 +15,8 @@ pub enum Command {
     Render(DocumentOptions),
     /// The names of the styles that are built in are printed, or the file of that of this name.
     Styles(Option<String>),
+    /// The style sheet of pages is printed.
+    StyleSheet,
 }
 
 /// The form of what is written.
@@ -42,6 +44,8 @@ pub struct Options {
     pub format: OutputFormat,
     /// Whether what is written is a whole page of HTML.
     pub is_standalone: bool,
+    /// Whether citations are followed by the bibliography.
+    pub has_bibliography: bool,
     /// Whether references that aren't cited are listed.
     pub lists_uncited: bool,
     /// The files of references: the one that is named as a file first, then those of

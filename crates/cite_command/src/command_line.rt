@@ -31,6 +31,7 @@ enum Verb {
     Render,
     Check,
     Styles,
+    Css,
 }
 
 /// The commands, in the order in which help has them.
@@ -40,6 +41,7 @@ const VERBS: &[Verb] = &[
     Verb::Render,
     Verb::Check,
     Verb::Styles,
+    Verb::Css,
 ];
 
 fn commands<'a>(alloc: Global) -> Result<Vec<Command<'a>>, AllocError> {
@@ -57,6 +59,7 @@ fn command<'a>(alloc: Global, verb: Verb) -> Result<Command<'a>, AllocError> {
         Verb::Render => render(alloc),
         Verb::Check => check(alloc),
         Verb::Styles => styles(alloc),
+        Verb::Css => css(alloc),
     }
 }
 
@@ -64,7 +67,9 @@ fn command<'a>(alloc: Global, verb: Verb) -> Result<Command<'a>, AllocError> {
 
 fn cite<'a>(alloc: Global) -> Result<Command<'a>, AllocError> {
     let citations = citations(alloc).required(true);
-    writing(alloc, "cite", "Prints each citation", citations)
+    let command = writing(alloc, "cite", "Prints each citation", citations)?;
+    let help = "The bibliography follows the citations";
+    command.arg(flag(alloc, "with-bibliography", help))
 }
 
 fn bibliography<'a>(alloc: Global) -> Result<Command<'a>, AllocError> {
@@ -183,6 +188,10 @@ fn styles<'a>(alloc: Global) -> Result<Command<'a>, AllocError> {
         .about("Prints the names of the styles that are built in, or the file of one")
         .after_help(STYLES_NOTES)
         .arg(Arg::new(alloc, "NAME").help("The name of a style"))
+}
+
+fn css<'a>(alloc: Global) -> Result<Command<'a>, AllocError> {
+    Ok(Command::new(alloc, "css").about("Prints the style sheet of citations and reference lists"))
 }
 
 // ---- options

@@ -70,7 +70,8 @@ fn command_in(alloc: Global, matches: &ArgMatches<'_>) -> Result<Command, Comman
         "check" => check_in(alloc, words),
         "render" => render_in(alloc, words),
         "styles" => styles_in(alloc, words),
-        "cite" => Ok(Command::Cite(options_in(alloc, words)?)),
+        "css" => Ok(Command::StyleSheet),
+        "cite" => Ok(Command::Cite(cite_options(alloc, words)?)),
         _ => Ok(Command::Bibliography(options_in(alloc, words)?)),
     }
 }
@@ -90,6 +91,13 @@ fn styles_in(alloc: Global, words: &ArgMatches<'_>) -> Result<Command, CommandLi
     Ok(Command::Styles(text_at(alloc, words, "NAME")?))
 }
 
+/// The options of the command that prints citations.
+fn cite_options(alloc: Global, words: &ArgMatches<'_>) -> Result<Options, CommandLineError> {
+    let mut options = options_in(alloc, words)?;
+    options.has_bibliography = words.get_flag("with-bibliography");
+    Ok(options)
+}
+
 /// The options of a command that writes.
 fn options_in(alloc: Global, words: &ArgMatches<'_>) -> Result<Options, CommandLineError> {
     checked(Options {
@@ -99,6 +107,7 @@ fn options_in(alloc: Global, words: &ArgMatches<'_>) -> Result<Options, CommandL
         locales: text_at(alloc, words, "locales")?,
         format: format_in(words),
         is_standalone: words.get_flag("standalone"),
+        has_bibliography: false,
         lists_uncited: words.get_flag("nocite"),
         references: references_in(alloc, words)?,
         citations: text_at(alloc, words, "CITATIONS")?,

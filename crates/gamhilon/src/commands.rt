@@ -3,7 +3,7 @@ use crate::error::CommandError;
 use crate::files::bytes_of;
 use crate::json_causes::{behind_mark, json_refused};
 use crate::locales::locales_of;
-use crate::printing::{print_bibliography, print_citations, print_json};
+use crate::printing::{Printing, print_bibliography, print_both, print_citations, print_json};
 use crate::references::references_of;
 use crate::reports::{refused, show_warning};
 use crate::styles::{FoundStyle, style_of};
@@ -26,6 +26,7 @@ use std::rt::Files;
 enum Printed {
     Citations,
     Bibliography,
+    Both,
 }
 
 /// The citations of a command.
@@ -36,7 +37,7 @@ struct Cited {
     count: usize,
 }
 
-/// Prints citations.
+/// Prints citations, and the bibliography where it is asked for.
 ///
 /// # Errors
 ///
@@ -45,7 +46,12 @@ pub(crate) fn cite(
     rt: &(impl Files + Input + Print + Eprint + AllocGlobal + Clone + Drop),
     options: &Options,
 ) -> Result<(), CommandError> {
-    print_answer(rt, options, Printed::Citations)
+    let printed = if options.has_bibliography {
+        Printed::Both
+    } else {
+        Printed::Citations
+    };
+    print_answer(rt, options, printed)
 }
 
 /// Prints a bibliography.
@@ -138,7 +144,7 @@ fn print_document(
     let files = locales_of(rt, options, language)?;
     let locale = LocaleChain::new(rt.alloc(), language, &found.style.locales, &files)?;
     let is_whole = options.format == OutputFormat::Json;
-    let lists_items = is_whole || printed == Printed::Bibliography;
+    let lists_items = is_whole || printed != Printed::Citations;
     let answer = answer_of(
         rt.alloc(),
         options,
@@ -148,13 +154,19 @@ fn print_document(
         &locale,
         lists_items,
     )?;
-    let marks = locale.quote_marks();
+    let printing = Printing {
+        options,
+        style: &found.style,
+        language,
+        marks: locale.quote_marks(),
+    };
     if is_whole {
-        return print_json(rt, &found.style, &cited.citations, &answer, marks);
+        return print_json(rt, &printing, &cited.citations, &answer);
     }
     match printed {
-        Printed::Citations => print_citations(rt, options, &answer, marks),
-        Printed::Bibliography => print_bibliography(rt, options, &answer, marks),
+        Printed::Citations => print_citations(rt, &printing, &answer),
+        Printed::Bibliography => print_bibliography(rt, &printing, &answer),
+        Printed::Both => print_both(rt, &printing, &answer),
     }
 }
 

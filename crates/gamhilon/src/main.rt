@@ -16,6 +16,7 @@ mod json_syntax;
 mod locales;
 mod near_styles;
 mod packaged;
+mod page;
 mod printing;
 mod references;
 mod reports;
@@ -26,6 +27,7 @@ use cite_command::arguments::Command;
 use cite_command::error::UsageError;
 use cite_command::parsing::command_of;
 use error::CommandError;
+use packaged_styles::sheet::STYLE_SHEET;
 use std::process::ExitCode;
 use std::rt::{Env, Files};
 use std::{env, io};
@@ -50,6 +52,7 @@ fn run(
         Command::Cite(options) => commands::cite(rt, &options)?,
         Command::Bibliography(options) => commands::bibliography(rt, &options)?,
         Command::Render(options) => documents::render(rt, &options)?,
+        Command::StyleSheet => print!(rt; "{STYLE_SHEET}")?,
         Command::Styles(name) => packaged::show(rt, name.as_deref())?,
     }
     Ok(ExitCode::SUCCESS)

@@ -1,5 +1,6 @@
 //! Answers are printed.
 use crate::error::CommandError;
+use crate::page::{Page, anchor, begin_list};
 use cite_answer::printing::print_answer;
 use cite_command::arguments::{Options, OutputFormat};
 use cite_host::answer::{Answer, ListedItem};
@@ -9,20 +10,38 @@ use cite_pieces::pieces::Pieces;
 use cite_pieces::plain::plain_text;
 use csl_texts::quotes::QuoteMarks;
 use std::alloc::{AllocError, Global};
+use style_file::sections::BibliographyOptions;
 use style_file::style::CslStyle;
 
-/// The head of a page.
-const PAGE: &str = "<!DOCTYPE html>
-<html>
-<head>
-<meta charset=\"utf-8\">
-<title>References</title>
-</head>
-<body>";
+/// What is to be printed of an answer, and how.
+#[derive(Clone, Copy)]
+pub(crate) struct Printing<'p> {
+    pub options: &'p Options,
+    pub style: &'p CslStyle,
+    /// The tag of the document's language.
+    pub language: &'p str,
+    pub marks: QuoteMarks<'p>,
+}
 
-/// The end of a page.
-const PAGE_END: &str = "</body>
-</html>";
+impl<'p> Printing<'p> {
+    /// A page with this title, where a whole page is wanted.
+    fn page(&self, title: &'p str) -> Option<Page<'p>> {
+        let is_page = self.options.format == OutputFormat::Html && self.options.is_standalone;
+        let language = self.language;
+        if is_page {
+            Some(Page { language, title })
+        } else {
+            None
+        }
+    }
+}
+
+/// The bibliography of an answer, with the options of its style.
+#[derive(Clone, Copy)]
+struct List<'p> {
+    options: &'p BibliographyOptions,
+    items: &'p [ListedItem],
+}
 
 /// Prints the citations of an answer, each on a line.
 ///
@@ -31,26 +50,134 @@ const PAGE_END: &str = "</body>
 /// `Output`; `OutOfMemory`.
 pub(crate) fn print_citations(
     rt: &(impl Print + AllocGlobal),
-    options: &Options,
+    printing: &Printing<'_>,
     answer: &Answer,
-    marks: QuoteMarks<'_>,
 ) -> Result<(), CommandError> {
-    let mut texts = Vec::new(rt.alloc());
-    for citation in &answer.citations {
-        texts.push(shown(rt.alloc(), citation, options.format, marks)?)?;
+    let texts = citation_texts(rt.alloc(), printing, answer)?;
+    let Some(page) = printing.page("Citations") else {
+        return print_lines(rt, &texts);
+    };
+    page.begin(rt)?;
+    print_paragraphs(rt, &texts)?;
+    page.end(rt)
+}
+
+/// Prints the bibliography of an answer, each item on a line. Where its style has none, standard
+/// error says so.
+///
+/// # Errors
+///
+/// `Output`; `OutOfMemory`.
+pub(crate) fn print_bibliography(
+    rt: &(impl Print + Eprint + AllocGlobal),
+    printing: &Printing<'_>,
+    answer: &Answer,
+) -> Result<(), CommandError> {
+    let Some(list) = list_of(rt, printing, answer) else {
+        return Ok(());
+    };
+    let Some(page) = printing.page("References") else {
+        return print_items(rt, printing, list.items);
+    };
+    page.begin(rt)?;
+    print_list(rt, list, printing.marks)?;
+    page.end(rt)
+}
+
+/// Prints the citations of an answer and, behind an empty line, its bibliography; as HTML, each in
+/// a section.
+///
+/// # Errors
+///
+/// `Output`; `OutOfMemory`.
+pub(crate) fn print_both(
+    rt: &(impl Print + Eprint + AllocGlobal),
+    printing: &Printing<'_>,
+    answer: &Answer,
+) -> Result<(), CommandError> {
+    let texts = citation_texts(rt.alloc(), printing, answer)?;
+    let list = list_of(rt, printing, answer);
+    if printing.options.format != OutputFormat::Html {
+        return print_texts(rt, printing, &texts, list);
     }
-    match options.format {
-        OutputFormat::Html if options.is_standalone => print_page(rt, &texts),
-        _ => print_lines(rt, &texts),
+    let Some(page) = printing.page("Citations") else {
+        return print_sections(rt, &texts, list, printing.marks);
+    };
+    page.begin(rt)?;
+    print_sections(rt, &texts, list, printing.marks)?;
+    page.end(rt)
+}
+
+/// Prints texts of citations, and behind an empty line those of a list.
+fn print_texts(
+    rt: &(impl Print + AllocGlobal),
+    printing: &Printing<'_>,
+    texts: &[String],
+    list: Option<List<'_>>,
+) -> Result<(), CommandError> {
+    print_lines(rt, texts)?;
+    match list {
+        Some(list) => {
+            println!(rt; "")?;
+            print_items(rt, printing, list.items)
+        }
+        None => Ok(()),
     }
 }
 
-fn print_page(rt: &impl Print, texts: &[String]) -> Result<(), CommandError> {
-    println!(rt; "{PAGE}")?;
-    for text in texts {
-        println!(rt; "<p>{}</p>", text.as_str())?;
+/// Prints a section of citations, and one of a list.
+fn print_sections(
+    rt: &(impl Print + AllocGlobal),
+    texts: &[String],
+    list: Option<List<'_>>,
+    marks: QuoteMarks<'_>,
+) -> Result<(), CommandError> {
+    println!(rt; "<section class=\"citations\">")?;
+    print_paragraphs(rt, texts)?;
+    println!(rt; "</section>")?;
+    match list {
+        Some(list) => {
+            println!(rt; "<section class=\"bibliography\">")?;
+            print_list(rt, list, marks)?;
+            Ok(println!(rt; "</section>")?)
+        }
+        None => Ok(()),
     }
-    Ok(println!(rt; "{PAGE_END}")?)
+}
+
+/// The texts of the citations of an answer.
+fn citation_texts(
+    alloc: Global,
+    printing: &Printing<'_>,
+    answer: &Answer,
+) -> Result<Vec<String>, AllocError> {
+    let mut texts = Vec::new(alloc);
+    for citation in &answer.citations {
+        let text = shown(alloc, citation, printing.options.format, printing.marks)?;
+        texts.push(text)?;
+    }
+    Ok(texts)
+}
+
+/// The bibliography of an answer. Where its style has none, standard error says so.
+fn list_of<'p>(rt: &impl Eprint, printing: &Printing<'p>, answer: &'p Answer) -> Option<List<'p>> {
+    match (&answer.bibliography, &printing.style.bibliography) {
+        (Some(items), Some(section)) => Some(List {
+            options: &section.options,
+            items,
+        }),
+        _ => {
+            let _ = eprintln!(rt; "gamhilon: warning: the style has no bibliography");
+            None
+        }
+    }
+}
+
+fn print_paragraphs(rt: &impl Print, texts: &[String]) -> Result<(), CommandError> {
+    for text in texts {
+        println!(rt; "<p class=\"citation\">{}</p>", text.as_str())?;
+    }
+    Ok(())
 }
 
 fn print_lines(rt: &impl Print, texts: &[String]) -> Result<(), CommandError> {
@@ -58,31 +185,6 @@ fn print_lines(rt: &impl Print, texts: &[String]) -> Result<(), CommandError> {
         println!(rt; "{}", text.as_str())?;
     }
     Ok(())
-}
-
-/// Prints the bibliography of an answer. Where its style has none, standard error says so.
-///
-/// # Errors
-///
-/// `Output`; `OutOfMemory`.
-pub(crate) fn print_bibliography(
-    rt: &(impl Print + Eprint + AllocGlobal),
-    options: &Options,
-    answer: &Answer,
-    marks: QuoteMarks<'_>,
-) -> Result<(), CommandError> {
-    let Some(items) = &answer.bibliography else {
-        let _ = eprintln!(rt; "gamhilon: warning: the style has no bibliography");
-        return Ok(());
-    };
-    match options.format {
-        OutputFormat::Html if options.is_standalone => {
-            println!(rt; "{PAGE}")?;
-            print_list(rt, items, marks)?;
-            Ok(println!(rt; "{PAGE_END}")?)
-        }
-        _ => print_items(rt, options.format, items, marks),
-    }
 }
 
 /// Prints the whole answer to a document as JSON. Where its style has no bibliography, that has
@@ -93,39 +195,45 @@ pub(crate) fn print_bibliography(
 /// `Output`; `OutOfMemory`.
 pub(crate) fn print_json(
     rt: &(impl Print + AllocGlobal),
-    style: &CslStyle,
+    printing: &Printing<'_>,
     citations: &[Citation],
     answer: &Answer,
-    marks: QuoteMarks<'_>,
 ) -> Result<(), CommandError> {
-    let text = print_answer(rt.alloc(), style, citations, answer, marks)?;
+    let text = print_answer(
+        rt.alloc(),
+        printing.style,
+        citations,
+        answer,
+        printing.marks,
+    )?;
     Ok(println!(rt; "{}", text.as_str())?)
 }
 
 /// Prints the texts of items, each on a line.
 fn print_items(
     rt: &(impl Print + AllocGlobal),
-    format: OutputFormat,
+    printing: &Printing<'_>,
     items: &[ListedItem],
-    marks: QuoteMarks<'_>,
 ) -> Result<(), CommandError> {
     for item in items {
-        let text = item_text(rt.alloc(), item, format, marks)?;
+        let text = item_text(rt.alloc(), item, printing.options.format, printing.marks)?;
         println!(rt; "{}", text.as_str())?;
     }
     Ok(())
 }
 
-/// Prints items as a list of HTML.
+/// Prints items as a list of HTML, each with an id.
 fn print_list(
     rt: &(impl Print + AllocGlobal),
-    items: &[ListedItem],
+    list: List<'_>,
     marks: QuoteMarks<'_>,
 ) -> Result<(), CommandError> {
-    println!(rt; "<div class=\"csl-bib-body\">")?;
-    for item in items {
+    begin_list(rt, list.options)?;
+    for item in list.items {
+        let anchor = anchor(rt.alloc(), item.id.as_str())?;
         let text = item_text(rt.alloc(), item, OutputFormat::Html, marks)?;
-        println!(rt; "<div class=\"csl-entry\">{}</div>", text.as_str())?;
+        let (anchor, text) = (anchor.as_str(), text.as_str());
+        println!(rt; "<div id=\"{anchor}\" class=\"csl-entry\">{text}</div>")?;
     }
     Ok(println!(rt; "</div>")?)
 }

@@ -1,8 +1,10 @@
-//! Four styles of CSL 1.0.2 that are built in: the files of examples/styles, byte for byte.
+//! What is built in, byte for byte: four styles of CSL 1.0.2, the files of examples/styles, and the
+//! style sheet of pages.
 #![tactic(auto)]
 
 mod author_date;
 mod labels;
 mod notes;
 mod numeric;
+pub mod sheet;
 pub mod styles;
