@@ -1,4 +1,12 @@
 //! Page ranges (CSL 1.0.2, appendix "Page Ranges").
+ghost use Rattle.std.specs.Prelude.{◌≡◌, ◌≤◌, IfOk, IfSome, IsTrue, MatchOption};
+ghost use Rattle.std.specs.Prelude.{[], length, string_bytes};
+ghost use Rattle.std.specs.Str.{IsAscii};
+ghost use Rattle.csl_texts.specs.Pages.{changed_digits, common_digits, shown_digits, whole_number};
+ghost use Rattle.csl_texts.specs.Pages.{number_of, number_start, prefix_of};
+ghost use Rattle.csl_texts.specs.Pages.{changes_three_of_four, chicago_digits, least_digits};
+ghost use Rattle.csl_texts.specs.Pages.{is_early_in_its_hundred, is_short_or_round};
+
 use std::alloc::{AllocError, Global};
 use style_file::style::PageRangeFormat;
 
@@ -152,13 +160,28 @@ struct Page<'a> {
 }
 
 /// A page that ends in digits.
-fn page_of(word: &str) -> Option<Page<'_>> {
-    let prefix = word.trim_end_matches(|c: char| c.is_ascii_digit());
-    let digits = word.strip_prefix(prefix)?;
+#[tactic(auto, using(crate::proofs::Ranges::number_cut, crate::proofs::Ranges::number_ascii))]
+fn page_of(word: &str) -> Option<Page<'_>>
+    ensures parts { MatchOption result (number_of word.now ≡ [])
+        (λ page. (page.prefix.now ≡ prefix_of word.now) × (page.digits.now ≡ number_of word.now)) }
+    ensures digits { IfSome result (λ page. IsAscii page.digits.now) }
+{
+    let (prefix, digits) = word.split_at(number_start(word.as_bytes()));
     if digits.is_empty() {
         return None;
     }
     Some(Page { prefix, digits })
+}
+
+/// Where the digits begin that a word ends in.
+fn number_start(word: &[u8]) -> usize
+    ensures { result ≡ number_start word.now }
+{
+    let mut start = word.len();
+    while start > 0 && word[start - 1].is_ascii_digit() {
+        start -= 1;
+    }
+    start
 }
 
 fn push_last_page(
@@ -178,12 +201,28 @@ fn push_last_page(
     if format == PageRangeFormat::Expanded {
         push_unescaped(alloc, out, to.prefix)?;
     }
-    let kept = least_digits(format, from.digits, whole.as_str());
-    out.push_str(changed_digits(from.digits, whole.as_str(), kept))
+    out.push_str(shown_digits(format, from.digits, whole.as_str()))
+}
+
+/// The digits of the second number that a format shows. A reader who knows the first number knows
+/// the second one by them.
+fn shown_digits<'a>(format: PageRangeFormat, first: &str, whole: &'a str) -> &'a str
+    requires digits { IsAscii whole.now }
+    requires not_longer { length first.now ≤ length whole.now }
+    ensures shown { result.now ≡ shown_digits format first.now whole.now }
+    ensures read_back { whole_number first.now result.now ≡ whole.now }
+{
+    changed_digits(first, whole, least_digits(format, first, whole))
 }
 
 /// The last number with the digits of the first that were left out before it: 28 behind 321 is 328.
-fn whole_number(alloc: Global, first: &str, last: &str) -> Result<String, AllocError> {
+#[tactic(auto, using(crate::proofs::Ranges::ascii_whole))]
+fn whole_number(alloc: Global, first: &str, last: &str) -> Result<String, AllocError>
+    requires first { IsAscii first.now }
+    requires last { IsAscii last.now }
+    ensures whole { IfOk result (λ whole. string_bytes whole ≡ whole_number first.now last.now) }
+    ensures digits { IfOk result (λ whole. IsAscii (string_bytes whole)) }
+{
     let mut whole = String::new(alloc);
     let missing = first.len().saturating_sub(last.len());
     whole.push_str(first.get(..missing).unwrap_or(""))?;
@@ -191,57 +230,85 @@ fn whole_number(alloc: Global, first: &str, last: &str) -> Result<String, AllocE
     Ok(whole)
 }
 
-fn is_later(first: &str, last: &str) -> bool {
+fn is_later(first: &str, last: &str) -> bool
+    ensures { IsTrue result → length first.now ≤ length last.now }
+{
     last.len() > first.len() || (last.len() == first.len() && last > first)
 }
 
 /// How many of the last number's digits are written at least.
-fn least_digits(format: PageRangeFormat, first: &str, last: &str) -> usize {
+fn least_digits(format: PageRangeFormat, first: &str, last: &str) -> usize
+    ensures { result ≡ least_digits format first.now last.now }
+{
     match format {
         PageRangeFormat::Expanded => last.len(),
         PageRangeFormat::Minimal => 1,
         PageRangeFormat::MinimalTwo => 2,
         PageRangeFormat::ChicagoFifteen if changes_three_of_four(first, last) => last.len(),
         PageRangeFormat::ChicagoFifteen | PageRangeFormat::ChicagoSixteen => {
-            if first.len() < 3 || first.ends_with("00") {
-                last.len()
-            } else if is_early_in_its_hundred(first) {
-                1
-            } else {
-                2
-            }
+            chicago_digits(first, last)
         }
     }
 }
 
+/// How many digits of the last number The Chicago Manual of Style keeps at least.
+fn chicago_digits(first: &str, last: &str) -> usize
+    ensures { result ≡ chicago_digits first.now last.now }
+{
+    let digits = first.as_bytes();
+    if is_short_or_round(digits) {
+        last.len()
+    } else if is_early_in_its_hundred(digits) {
+        1
+    } else {
+        2
+    }
+}
+
+/// Whether a number has fewer than three digits, or is a multiple of 100.
+fn is_short_or_round(number: &[u8]) -> bool
+    ensures { result ≡ is_short_or_round number.now }
+{
+    number.len() < 3 || (number[number.len() - 1] == b'0' && number[number.len() - 2] == b'0')
+}
+
 /// Whether at least three digits change, of numbers of four digits.
-fn changes_three_of_four(first: &str, last: &str) -> bool {
-    first.len() == 4 && last.len() == 4 && common_digits(first, last) < 2
+fn changes_three_of_four(first: &str, last: &str) -> bool
+    ensures { result ≡ changes_three_of_four first.now last.now }
+{
+    first.len() == 4 && last.len() == 4 && common_digits(first.as_bytes(), last.as_bytes()) < 2
 }
 
 /// Whether the last digit but one is 0.
-fn is_early_in_its_hundred(number: &str) -> bool {
-    number.bytes().rev().nth(1) == Some(b'0')
+fn is_early_in_its_hundred(number: &[u8]) -> bool
+    ensures { result ≡ is_early_in_its_hundred number.now }
+{
+    number.len() > 1 && number[number.len() - 2] == b'0'
 }
 
 /// How many digits both numbers begin with.
-fn common_digits(first: &str, last: &str) -> usize {
-    first
-        .bytes()
-        .zip(last.bytes())
-        .take_while(|(a, b)| a == b)
-        .count()
+fn common_digits(first: &[u8], last: &[u8]) -> usize
+    ensures { result ≡ common_digits first.now last.now }
+{
+    let mut count = 0;
+    while count < first.len() && count < last.len() && first[count] == last[count] {
+        count += 1;
+    }
+    count
 }
 
 /// The digits of the last number behind those that both begin with, so many at least. All of them
 /// where one number has more digits.
-fn changed_digits<'a>(first: &str, last: &'a str, kept: usize) -> &'a str {
+fn changed_digits<'a>(first: &str, last: &'a str, kept: usize) -> &'a str
+    requires { IsAscii last.now }
+    ensures { result.now ≡ changed_digits first.now last.now kept }
+{
     if first.len() != last.len() {
         return last;
     }
     let most = last.len().saturating_sub(kept);
-    last.get(common_digits(first, last).min(most)..)
-        .unwrap_or(last)
+    let common = common_digits(first.as_bytes(), last.as_bytes());
+    last.get(common.min(most)..).unwrap_or(last)
 }
 
 /// Appends a text, in which `\-` is a hyphen.
