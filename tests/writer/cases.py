@@ -78,6 +78,41 @@ PARTED_NAMES = ('<group delimiter=" / "><names variable="author"><name>%s</name>
 FOUR = [several('one', 2000, 'Ape', 'Bee', 'Cat', 'Dog')]
 
 CASES = [
+    # Links
+    item('a link with its affix', 'Links: what a prefix has of the address is part of the link, and other affixes are not',
+         '<text variable="DOI" prefix="doi: https://doi.org/" suffix="."/>', [PAPER],
+         ['doi: <a href="https://doi.org/10.1000/182">https://doi.org/10.1000/182</a>.'], to='html'),
+    item('a DOI behind a resolver', 'Links: a DOI leads to its resolver, whose address may stand before it',
+         '<group delimiter=" "><text variable="DOI"/><text variable="DOI" prefix="https://doi.org/"/></group>',
+         [{**PAPER, 'DOI': 'http://dx.doi.org/10.1000/1<2'}],
+         ['<a href="https://doi.org/10.1000/1%3C2">http://dx.doi.org/10.1000/1&lt;2</a> '
+          '<a href="https://doi.org/10.1000/1%3C2">https://doi.org/10.1000/1&lt;2</a>'], to='html'),
+    item('identifiers', 'Links: PMID and PMCID', '<group delimiter=" "><text variable="PMID"/><text variable="PMCID"/></group>',
+         [{**PAPER, 'PMID': '123', 'PMCID': 'PMC45'}],
+         ['<a href="https://www.ncbi.nlm.nih.gov/pubmed/123">123</a> <a href="https://www.ncbi.nlm.nih.gov/pmc/articles/PMC45">PMC45</a>'],
+         to='html'),
+    *[item('no link: ' + url.replace(chr(1), ' '), 'docs/WRITER.md: links lead to http, https, mailto and doi alone', '<text variable="%s"/>' % variable,
+           [{**PAGE, 'URL': url, 'DOI': url}], [shown], to='html')
+      for variable, url, shown in (('URL', 'javascript:alert(1)', 'javascript:alert(1)'),
+                                   ('URL', '\x01JavaScript:alert(1)', 'JavaScript:alert(1)'), ('URL', 'data:text/html,x', 'data:text/html,x'),
+                                   ('URL', 'www.example.org', 'www.example.org'), ('DOI', 'http://evil/', 'http://evil/'))],
+    cite('a text behind names of a key', 'pandoc: what a macro writes behind names goes before a second name',
+         TEXT, [several('three', 2014, 'Meyer', 'Abe', 'Diaz', title='three'), several('one', 2012, 'Meyer', title='one')], ['onethree'],
+         macros='<macro name="m"><group delimiter=" ">' + names('form="short"') + YEAR + '</group></macro>',
+         sort='<sort><key macro="m"/></sort>'),
+    cite('a term given twice', 'Terms: of a term that a locale has twice the last counts, as with pandoc', '<text term="page"/>', [PAGE], ['second'],
+         locale='<locale><terms><term name="page">first</term><term name="page">second</term></terms></locale>'),
+    # One line
+    item('a break in a text', 'docs/WRITER.md: text is one line', '<text variable="title" suffix="&#10;!"/>',
+         [{**PAGE, 'title': 'No\nbody\x00\u2028was'}], ['No body was !']),
+    item('a break in HTML', 'docs/WRITER.md: HTML is one line', '<text variable="title" suffix="&#10;!"/>',
+         [{**PAGE, 'title': 'No\nbody\x00\u2028was'}], ['No body was !'], to='html'),
+    item('a block in a line', 'Display: a block stands apart', '<text variable="title" display="block"/><text value="x"/>', [PAGE],
+         ['Nobody x']),
+    item('a period behind what is replaced', 'pandoc: the period that names share with what follows stands behind what replaces them',
+         '<group delimiter=". " suffix=".">' + names('name-as-sort-order="all"') + YEAR + '</group>',
+         [person('a', 'King', 'Martin L.', 1958), person('b', 'King', 'Martin L.', 1959)], ['King, Martin L. 1958.', '———. 1959.'],
+         in_bibliography='subsequent-author-substitute="———"'),
     # Names
     cite('names of no variable', 'Substitute: where there are no names, what stands in is written, and of that the first that is there',
          '<names><substitute><text variable="genre"/><text variable="title"/><text variable="publisher"/></substitute></names>', [BOOK],
@@ -109,6 +144,8 @@ CASES = [
          locale='<locale><terms><term name="and">和</term></terms></locale>'),
     cite('et al.', 'Name: `et-al-min`, `et-al-use-first`; of one name no comma stands before the term', names('form="short"'), FOUR,
          ['Ape et al.'], in_citation='et-al-min="3" et-al-use-first="1"'),
+    *[cite('et al. by %s alone' % it, 'Et-al: use of both attributes enables abbreviation', names('form="short"'), FOUR,
+           ['Ape, Bee, Cat, Dog'], in_citation=it) for it in ('et-al-min="3"', 'et-al-use-first="1"')],
     cite('et al. of two', 'Name: a delimiter before `et al.` behind two names or more', names('form="short"'), FOUR,
          ['Ape, Bee, et al.'], in_citation='et-al-min="3" et-al-use-first="2"'),
     cite('the last name', 'Name: `et-al-use-last` writes an ellipsis and the last name', names('form="short" delimiter=", "'), FOUR,

@@ -9,7 +9,7 @@ use cite_pieces::marked::with_field_marks;
 use cite_pieces::output::{AffixPlace, Element, written};
 use cite_pieces::piece::Mark;
 use cite_pieces::pieces::Pieces;
-use cite_pieces::punctuation::punctuated;
+use cite_pieces::punctuation::{punctuated, punctuated_but_names};
 use cite_trees::trees::tree_of;
 use cite_walk::cite::WrittenCite;
 use cite_walk::walk::write_cite;
@@ -116,7 +116,13 @@ impl<'s, 'i, 'd> TaskWriter<'s, 'i, 'd> {
             leave_out_marks(self.alloc, &mut cite)?;
         }
         let formatting = self.setting.style.citation.layout.formatting;
+        let pieces = replace(&mut cite.pieces, Pieces::new(self.alloc));
+        cite.pieces = punctuated(self.alloc, pieces, self.has_punctuation_in_quotes())?;
         self.told(cite, TextFormatting::NORMAL.with(formatting))
+    }
+
+    fn has_punctuation_in_quotes(&self) -> bool {
+        self.setting.locale.has_punctuation_in_quotes()
     }
 
     /// A cite with the words that stand around it where it is shown.
@@ -156,11 +162,12 @@ impl<'s, 'i, 'd> TaskWriter<'s, 'i, 'd> {
         let mut listed = write_cite(self.alloc, self.setting.item_scene(bibliography), facts)?;
         let pieces = replace(&mut listed.pieces, Pieces::new(self.alloc));
         let layout = &bibliography.section.layout;
-        listed.pieces = if bibliography.section.options.second_field_align.is_some() {
+        let pieces = if bibliography.section.options.second_field_align.is_some() {
             self.with_first_field(layout, pieces, listed.first_pieces)?
         } else {
             self.in_layout(layout, pieces)?
         };
+        listed.pieces = punctuated_but_names(self.alloc, pieces, self.has_punctuation_in_quotes())?;
         self.told(listed, TextFormatting::NORMAL)
     }
 
@@ -213,8 +220,6 @@ impl<'s, 'i, 'd> TaskWriter<'s, 'i, 'd> {
             has_tested_disambiguate,
             usage,
         } = cite;
-        let in_quotes = self.setting.locale.has_punctuation_in_quotes();
-        let pieces = punctuated(self.alloc, pieces, in_quotes)?;
         let first_name = match first_forms {
             Some(forms) => Some(NameDisambiguationProperties {
                 forms: Seq::new(forms),

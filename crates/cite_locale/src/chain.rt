@@ -13,6 +13,8 @@ use style_file::locale::{LocaleDate, LocaleFile, StyleLocale};
 #[derive(Drop)]
 pub struct LocaleChain<'a> {
     pub(crate) locales: Vec<IndexedLocale<'a>>,
+    /// How many of them are of the language, and not of English in its place.
+    own: usize,
     language: Language,
     own_letters: &'static [OwnLetter],
 }
@@ -31,7 +33,9 @@ impl<'a> LocaleChain<'a> {
         of_style: &'a [StyleLocale],
         files: &'a [LocaleFile],
     ) -> Result<LocaleChain<'a>, AllocError> {
+        let language = Language::of_tag(tag);
         let mut locales = Vec::new(alloc);
+        let mut own = 0;
         for source in lookup_order(alloc, tag)? {
             match source {
                 LocaleSource::Style(tag) => {
@@ -40,12 +44,24 @@ impl<'a> LocaleChain<'a> {
                 LocaleSource::StyleForAll => push_of_style(alloc, &mut locales, of_style, None)?,
                 LocaleSource::File(tag) => push_file(alloc, &mut locales, files, tag)?,
             }
+            if language == Language::English || !is_of_english(source) {
+                own = locales.len();
+            }
         }
         Ok(LocaleChain {
             locales,
-            language: Language::of_tag(tag),
+            own,
+            language,
             own_letters: own_letters(tag),
         })
+    }
+
+    /// The locales of the language, and then those of English in its place.
+    pub(crate) fn by_language(&self) -> (&[IndexedLocale<'a>], &[IndexedLocale<'a>]) {
+        self.locales
+            .as_slice()
+            .split_at_checked(self.own)
+            .unwrap_or((self.locales.as_slice(), &[]))
     }
 
     /// The language of text cases.
@@ -113,6 +129,14 @@ impl<'a> LocaleChain<'a> {
             Some(mark) => mark,
             None => otherwise,
         }
+    }
+}
+
+/// Whether a source is the locale file that stands for all that others lack.
+fn is_of_english(source: LocaleSource<'_>) -> bool {
+    match source {
+        LocaleSource::File(tag) => is_same_language(tag, "en-US"),
+        LocaleSource::Style(_) | LocaleSource::StyleForAll => false,
     }
 }
 

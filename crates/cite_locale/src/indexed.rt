@@ -37,21 +37,23 @@ impl<'a> IndexedLocale<'a> {
         Ok(())
     }
 
-    /// The term in this form alone. One for the gender goes before one for any gender.
+    /// The term in this form alone. One for the gender goes before one for any gender, and of equal
+    /// ones the last.
     pub fn term(&self, wanted: Wanted) -> Option<&'a Term> {
         let terms = self.terms.get(index_of(wanted.name))?;
+        let mut of_gender = None;
         let mut for_all = None;
         for term in terms {
-            if term.form == wanted.form {
-                if term.gender_form.is_some() && term.gender_form == wanted.gender {
-                    return Some(*term);
-                }
-                if term.gender_form.is_none() && for_all.is_none() {
-                    for_all = Some(*term);
-                }
+            if term.form != wanted.form {
+                continue;
+            }
+            if term.gender_form.is_none() {
+                for_all = Some(*term);
+            } else if term.gender_form == wanted.gender {
+                of_gender = Some(*term);
             }
         }
-        for_all
+        of_gender.or(for_all)
     }
 }
 

@@ -139,8 +139,7 @@ impl<'s> Layers<'s> {
             .unwrap_or(DelimiterPrecedes::Contextual)
     }
 
-    /// The cut of a list of names. A list is cut where the least number of names is told; one name
-    /// is kept where no other number is told.
+    /// The cut of a list of names, where both of its numbers are told.
     fn cut(self, is_subsequent: bool) -> Option<Cut> {
         let min = self
             .own
@@ -218,11 +217,8 @@ impl<'s> Layers<'s> {
 }
 
 fn cut_at(min: Option<u32>, use_first: Option<u32>) -> Option<Cut> {
-    let min = min?;
-    Some(Cut {
-        min,
-        use_first: use_first.unwrap_or(1),
-    })
+    let (min, use_first) = (min?, use_first?);
+    Some(Cut { min, use_first })
 }
 
 /// The cut with what a key of sorting has in its place.

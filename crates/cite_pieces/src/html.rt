@@ -4,11 +4,13 @@ use crate::piece::{Piece, Wrap};
 use crate::pieces::Pieces;
 use crate::superscripts::base_of;
 use crate::tags::{Tag, Tags, opening_of_display};
+use csl_texts::lines::push_in_line;
 use csl_texts::quotes::QuoteMarks;
 use std::alloc::{AllocError, Global};
 
 /// A stream as HTML: formatting as `i`, `b`, `sup`, `sub` and `span`, links as `a`, and what is set
-/// off as `div`. Neighbours with the same formatting share its tags. Marks show nothing.
+/// off as `div`. Neighbours with the same formatting share its tags. Marks show nothing. Of control
+/// characters, those that are white space are spaces, and the others are left out.
 ///
 /// # Errors
 ///
@@ -207,10 +209,20 @@ fn common(open: &[Tag], wanted: &[Tag]) -> usize {
     shared
 }
 
-/// Appends a text, with references for the characters that HTML reads otherwise.
+/// Appends a text, with references for the characters that HTML reads otherwise. Neighbours that
+/// Unicode has above the line stand in one `sup`.
 fn push_escaped(out: &mut String, text: &str) -> Result<(), AllocError> {
+    let mut is_above = false;
     for c in text.chars() {
-        push_character(out, c)?;
+        let base = base_of(c);
+        if base.is_some() != is_above {
+            is_above = base.is_some();
+            out.push_str(if is_above { "<sup>" } else { "</sup>" })?;
+        }
+        push_character(out, base.unwrap_or(c))?;
+    }
+    if is_above {
+        out.push_str("</sup>")?;
     }
     Ok(())
 }
@@ -234,15 +246,6 @@ fn push_character(out: &mut String, c: char) -> Result<(), AllocError> {
         '&' => out.push_str("&#38;"),
         '<' => out.push_str("&#60;"),
         '>' => out.push_str("&#62;"),
-        _ => match base_of(c) {
-            Some(base) => push_superscript(out, base),
-            None => out.push(c),
-        },
+        _ => push_in_line(out, c),
     }
-}
-
-fn push_superscript(out: &mut String, base: char) -> Result<(), AllocError> {
-    out.push_str("<sup>")?;
-    out.push(base)?;
-    out.push_str("</sup>")
 }

@@ -189,15 +189,13 @@ impl<'s> Output<'s> {
         self.content.push_pieces(rich_pieces(self.alloc, text)?)
     }
 
-    /// Adds a text that leads to a URL.
+    /// Adds a stream that leads to an address.
     ///
     /// # Errors
     ///
     /// Where memory is refused.
-    pub fn push_link(&mut self, text: &str, url: &str) -> Result<(), AllocError> {
-        let text = Pieces::of_str(self.alloc, text)?;
-        let url = String::from_str(self.alloc, url)?;
-        self.content.push_wrapped(Wrap::Link(url), text)
+    pub fn push_link(&mut self, inside: Pieces, address: String) -> Result<(), AllocError> {
+        self.content.push_wrapped(Wrap::Link(address), inside)
     }
 
     /// Adds a stream to the innermost element, without a delimiter.

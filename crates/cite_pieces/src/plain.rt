@@ -1,12 +1,13 @@
 //! Streams as plain text.
 use crate::piece::{Piece, Wrap};
 use crate::pieces::Pieces;
-use crate::superscripts::letter_of;
+use csl_texts::lines::push_in_line;
 use csl_texts::quotes::QuoteMarks;
 use std::alloc::{AllocError, Global};
 
-/// The texts of a stream, with quotation marks. Quotes inside quotes have the inner marks, and so
-/// on in turn. Letters above the line, as ordinals have them, are plain ones: `1er`.
+/// The texts of a stream as one line, with quotation marks. Quotes inside quotes have the inner
+/// marks, and so on in turn. A space stands beside what `display` sets off. Of control characters,
+/// those that are white space are spaces, and the others are left out.
 ///
 /// # Errors
 ///
@@ -16,38 +17,83 @@ pub fn plain_text(
     pieces: &Pieces,
     marks: QuoteMarks<'_>,
 ) -> Result<String, AllocError> {
-    let mut out = String::new(alloc);
-    let mut marks = marks;
-    // Which of the wraps that are open are quotes.
-    let mut are_quotes = Vec::new(alloc);
+    let mut line = Line {
+        text: String::new(alloc),
+        marks,
+        open: Vec::new(alloc),
+        is_apart: false,
+    };
     for piece in pieces.as_slice() {
         match piece {
-            Piece::Text(text) => push_text(&mut out, text.as_str())?,
-            Piece::Open(wrap) => {
-                let is_quote = matches!(wrap, Wrap::Quotes(_));
-                are_quotes.push(is_quote)?;
-                if is_quote {
-                    out.push_str(marks.open)?;
-                    marks = marks.inside();
-                }
-            }
-            Piece::Close => {
-                if are_quotes.pop() == Some(true) {
-                    marks = marks.inside();
-                    out.push_str(marks.close)?;
-                }
-            }
+            Piece::Text(text) => line.push_text(text.as_str())?,
+            Piece::Open(wrap) => line.open(wrap)?,
+            Piece::Close => line.close()?,
         }
     }
-    Ok(out)
+    Ok(line.text)
 }
 
-fn push_text(out: &mut String, text: &str) -> Result<(), AllocError> {
-    if text.is_ascii() {
-        return out.push_str(text);
+/// A text that is being written.
+#[derive(Drop)]
+struct Line<'m> {
+    text: String,
+    marks: QuoteMarks<'m>,
+    /// The wraps that are open.
+    open: Vec<OpenWrap>,
+    /// Whether what comes next is set off from the text.
+    is_apart: bool,
+}
+
+/// A wrap that is open.
+#[derive(Clone, Copy)]
+enum OpenWrap {
+    Quotes,
+    Display,
+    Other,
+}
+
+impl Line<'_> {
+    fn push_text(&mut self, text: &str) -> Result<(), AllocError> {
+        if self.is_apart && !self.text.is_empty() {
+            push_in_line(&mut self.text, '\n')?;
+        }
+        self.is_apart = false;
+        for c in text.chars() {
+            push_in_line(&mut self.text, c)?;
+        }
+        Ok(())
     }
-    for c in text.chars() {
-        out.push(letter_of(c).unwrap_or(c))?;
+
+    fn open(&mut self, wrap: &Wrap) -> Result<(), AllocError> {
+        let open = match wrap {
+            Wrap::Quotes(_) => {
+                let mark = self.marks.open;
+                self.push_text(mark)?;
+                self.marks = self.marks.inside();
+                OpenWrap::Quotes
+            }
+            Wrap::Display(_) => {
+                self.is_apart = true;
+                OpenWrap::Display
+            }
+            _ => OpenWrap::Other,
+        };
+        self.open.push(open)?;
+        Ok(())
     }
-    Ok(())
+
+    fn close(&mut self) -> Result<(), AllocError> {
+        match self.open.pop() {
+            Some(OpenWrap::Quotes) => {
+                self.marks = self.marks.inside();
+                let mark = self.marks.close;
+                self.push_text(mark)
+            }
+            Some(OpenWrap::Display) => {
+                self.is_apart = true;
+                Ok(())
+            }
+            Some(OpenWrap::Other) | None => Ok(()),
+        }
+    }
 }

@@ -1,5 +1,5 @@
 //! Punctuation where texts meet: affixes, delimiters and what they stand around.
-use crate::piece::{Piece, Wrap};
+use crate::piece::{Mark, Piece, Wrap};
 use crate::pieces::Pieces;
 use std::alloc::{AllocError, Global};
 use std::mem::replace;
@@ -9,30 +9,27 @@ use std::mem::replace;
 /// period or a comma. A first text that joins nothing, as the affix `. `, is left out. If
 /// `in_quotes`, as locales ask for by punctuation-in-quote, a period or a comma behind a quote
 /// stands inside it, and inside the innermost one where several end there; but not one of the same
-/// field.
+/// field, and none behind an exclamation mark or a question mark.
 ///
 /// # Errors
 ///
 /// Where memory is refused.
 pub fn punctuated(alloc: Global, pieces: Pieces, in_quotes: bool) -> Result<Pieces, AllocError> {
-    let mut joints = Joints {
-        alloc,
-        in_quotes,
-        out: Pieces::new(alloc),
-        are_quotes: Vec::new(alloc),
-        last: String::new(alloc),
-        behind: Vec::new(alloc),
-        before: None,
-    };
-    for piece in pieces.into_vec() {
-        match piece {
-            Piece::Text(text) => joints.push_text(text)?,
-            Piece::Open(wrap) => joints.open(wrap)?,
-            Piece::Close => joints.close()?,
-        }
-    }
-    joints.write_last()?;
-    Ok(joints.out)
+    Joints::new(alloc, in_quotes, false).joined_up(pieces)
+}
+
+/// The stream with its punctuation in order, but for that between names and what is around them:
+/// names may be replaced yet, and the period behind `King, M.` isn't the one behind `———`.
+///
+/// # Errors
+///
+/// Where memory is refused.
+pub fn punctuated_but_names(
+    alloc: Global,
+    pieces: Pieces,
+    in_quotes: bool,
+) -> Result<Pieces, AllocError> {
+    Joints::new(alloc, in_quotes, true).joined_up(pieces)
 }
 
 /// A stream that is being put in order.
@@ -40,16 +37,27 @@ pub fn punctuated(alloc: Global, pieces: Pieces, in_quotes: bool) -> Result<Piec
 struct Joints {
     alloc: Global,
     in_quotes: bool,
+    /// Whether names join nothing.
+    keeps_names: bool,
     /// What is in order.
     out: Pieces,
-    /// Which of the wraps that are open are quotes.
-    are_quotes: Vec<bool>,
+    /// What the wraps that are open are.
+    open: Vec<WrapKind>,
     /// The last text.
     last: String,
     /// What opens and closes behind it.
     behind: Vec<Edge>,
     /// The character before it, where that is not a quotation mark.
     before: Option<char>,
+}
+
+/// What a wrap is to the texts that meet at it.
+#[derive(Clone, Copy, PartialEq, Eq)]
+enum WrapKind {
+    Quotes,
+    /// It joins nothing.
+    Names,
+    Other,
 }
 
 /// Where a wrap begins or ends.
@@ -61,24 +69,73 @@ enum Edge {
 }
 
 impl Joints {
+    /// Nothing that is in order.
+    fn new(alloc: Global, in_quotes: bool, keeps_names: bool) -> Joints {
+        Joints {
+            alloc,
+            in_quotes,
+            keeps_names,
+            out: Pieces::new(alloc),
+            open: Vec::new(alloc),
+            last: String::new(alloc),
+            behind: Vec::new(alloc),
+            before: None,
+        }
+    }
+
+    /// A stream in order.
+    fn joined_up(self, pieces: Pieces) -> Result<Pieces, AllocError> {
+        let mut joints = self;
+        for piece in pieces.into_vec() {
+            match piece {
+                Piece::Text(text) => joints.push_text(text)?,
+                Piece::Open(wrap) => joints.open(wrap)?,
+                Piece::Close => joints.close()?,
+            }
+        }
+        joints.write_last()?;
+        Ok(joints.out)
+    }
+
     fn open(&mut self, wrap: Wrap) -> Result<(), AllocError> {
-        let is_quote = matches!(&wrap, Wrap::Quotes(_));
-        self.are_quotes.push(is_quote)?;
+        let kind = self.kind_of(&wrap);
+        self.open.push(kind)?;
         self.behind.push(Edge::Open(wrap))?;
-        if is_quote {
-            self.write_last()?;
-            self.before = None;
+        if kind != WrapKind::Other {
+            self.end_joint()?;
         }
         Ok(())
     }
 
+    fn kind_of(&self, wrap: &Wrap) -> WrapKind {
+        match wrap {
+            Wrap::Quotes(_) => WrapKind::Quotes,
+            Wrap::Mark(Mark::Names(_) | Mark::Name(_, _)) if self.keeps_names => WrapKind::Names,
+            _ => WrapKind::Other,
+        }
+    }
+
     fn close(&mut self) -> Result<(), AllocError> {
-        let edge = if self.are_quotes.pop() == Some(true) {
-            Edge::CloseQuotes
-        } else {
-            Edge::Close
-        };
-        self.behind.push(edge)?;
+        match self.open.pop() {
+            Some(WrapKind::Quotes) => {
+                self.behind.push(Edge::CloseQuotes)?;
+                Ok(())
+            }
+            Some(WrapKind::Names) => {
+                self.behind.push(Edge::Close)?;
+                self.end_joint()
+            }
+            Some(WrapKind::Other) | None => {
+                self.behind.push(Edge::Close)?;
+                Ok(())
+            }
+        }
+    }
+
+    /// What comes next meets nothing.
+    fn end_joint(&mut self) -> Result<(), AllocError> {
+        self.write_last()?;
+        self.before = None;
         Ok(())
     }
 
@@ -125,11 +182,14 @@ impl Joints {
         false
     }
 
-    /// What is left of a text when its period or comma has moved into the quotes before it.
+    /// What is left of a text when its period or comma has moved into the quotes before it, where
+    /// it vanishes behind a mark that ends a sentence.
     fn moved_into_quotes<'t>(&mut self, text: &'t str) -> Result<&'t str, AllocError> {
         match text.chars().next() {
             Some(mark) if mark == '.' || mark == ',' => {
-                self.move_into_quotes(mark)?;
+                if !self.last.as_str().ends_with(|c| matches!(c, '!' | '?')) {
+                    self.move_into_quotes(mark)?;
+                }
                 Ok(text.strip_prefix(mark).unwrap_or(""))
             }
             _ => Ok(text),

@@ -100,8 +100,3 @@ pub(crate) fn base_of(c: char) -> Option<char> {
     }
     None
 }
-
-/// The letter that this character shows above the line.
-pub(crate) fn letter_of(c: char) -> Option<char> {
-    base_of(c).filter(|base| base.is_alphabetic())
-}

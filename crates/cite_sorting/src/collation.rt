@@ -6,8 +6,15 @@ use std::alloc::{AllocError, Global};
 use unicode_normalization::char::is_combining_mark;
 use unicode_normalization::{to_nfc, to_nfd, to_nfkd};
 
-/// What stands between two parts of a key, before any letter.
-pub const SEPARATOR: char = '\u{1}';
+/// What ends a name of a variable: names are compared one by one, so it is before a space.
+pub const SEPARATOR: char = '\u{2}';
+
+/// What stands between the names that a macro writes (`cite_names::rules::SORT_DELIMITER`).
+const BETWEEN_NAMES: char = '\u{1}';
+
+/// What that is compared as: behind a space, so that what the macro writes behind a name is before
+/// a second name, and before letters and digits.
+const AFTER_SPACE: char = '!';
 
 /// A text, as it is compared: by its letters, and where these are the same by accents, and then by
 /// case, small letters first.
@@ -54,6 +61,9 @@ impl CollationKey {
     fn push(&mut self, c: char) -> Result<(), AllocError> {
         if c == SEPARATOR || c == BEHIND {
             return self.letters.push(c);
+        }
+        if c == BETWEEN_NAMES {
+            return self.letters.push(AFTER_SPACE);
         }
         if is_combining_mark(c) {
             return self.accents.push(c);

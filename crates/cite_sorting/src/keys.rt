@@ -5,7 +5,8 @@ use cite_locale::chain::LocaleChain;
 use cite_names::forms::{form_of, own_forms, written_names};
 use cite_names::parts::{may_be_inverted, parts_of};
 use cite_names::rules::{HandedDown, NameRules};
-use cite_pieces::plain::plain_text;
+use cite_pieces::piece::Piece;
+use cite_pieces::pieces::Pieces;
 use cite_program::program::Program;
 use cite_walk::cite::{CiteFacts, Scene, SceneKind};
 use cite_walk::labels::label_of;
@@ -13,7 +14,6 @@ use cite_walk::sorted::sorted_number;
 use cite_walk::walk::write_cite;
 use csl_base::names::DisambiguatedNameForm;
 use csl_references::name::Name;
-use csl_texts::quotes::QuoteMarks;
 use csl_vocabulary::variable::{NameVariable, TextVariable, Variable};
 use std::alloc::{AllocError, Global};
 use style_file::names::{InheritedNameOptions, NameForm};
@@ -35,14 +35,6 @@ pub struct KeyScene<'s> {
     /// The options of names of the citation or the bibliography.
     pub names: &'s InheritedNameOptions,
 }
-
-/// The quotation marks of keys, which have none.
-const NO_MARKS: QuoteMarks<'static> = QuoteMarks {
-    open: "",
-    close: "",
-    inner_open: "",
-    inner_close: "",
-};
 
 impl<'s> KeyScene<'s> {
     /// The value of a key for a cite; `None` where it is empty.
@@ -87,7 +79,7 @@ impl<'s> KeyScene<'s> {
             adds_year_suffix: false,
         };
         let written = write_cite(alloc, scene, cite)?;
-        plain_text(alloc, &written.pieces, NO_MARKS)
+        all_texts(alloc, &written.pieces)
     }
 
     fn variable_text(
@@ -152,6 +144,17 @@ impl<'s> KeyScene<'s> {
         }
         Ok(text)
     }
+}
+
+/// The texts of a stream alone: keys have no quotation marks.
+fn all_texts(alloc: Global, pieces: &Pieces) -> Result<String, AllocError> {
+    let mut texts = String::new(alloc);
+    for piece in pieces.as_slice() {
+        if let Piece::Text(text) = piece {
+            texts.push_str(text.as_str())?;
+        }
+    }
+    Ok(texts)
 }
 
 /// Adds a name, whose parts are compared one by one.

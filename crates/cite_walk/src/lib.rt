@@ -6,6 +6,7 @@ mod conditions;
 mod dates;
 mod frames;
 pub mod labels;
+mod links;
 mod locators;
 mod names;
 mod numbers;

@@ -1,6 +1,7 @@
 //! Texts (CSL 1.0.2, "Text").
 use crate::cite::SceneKind;
 use crate::labels::label_of;
+use crate::links::Linked;
 use crate::sorted::sorted_number;
 use crate::values::{Value, in_place_of};
 use crate::walk::{Walk, text_element};
@@ -114,25 +115,13 @@ impl<'s> Walk<'s, '_> {
             return Ok(());
         };
         self.use_variable(Variable::Text(variable))?;
-        self.output.open(text_element(text))?;
-        match base_of_link(variable) {
-            Some(base) => self.push_link(value, base)?,
-            None => self.output.push_rich(value)?,
+        if let Some(linked) = Linked::of_variable(variable) {
+            return self.write_link(text, linked, value);
         }
+        self.output.open(text_element(text))?;
+        self.output.push_rich(value)?;
         self.output.close()?;
         Ok(())
-    }
-
-    /// Writes a text that leads to itself, behind this base where it is no URL.
-    fn push_link(&mut self, value: &RichText, base: &str) -> Result<(), AllocError> {
-        let alloc = self.alloc();
-        let text = value.plain(alloc)?;
-        let mut url = String::new(alloc);
-        if !text.as_str().starts_with("http://") && !text.as_str().starts_with("https://") {
-            url.push_str(base)?;
-        }
-        url.push_str(text.as_str())?;
-        self.output.push_link(text.as_str(), url.as_str())
     }
 
     /// Writes the suffix of the year where the style has a place for it.
@@ -289,16 +278,5 @@ impl<'s> Walk<'s, '_> {
             Some(locator) => locator.kind == LocatorType::Page,
             None => false,
         }
-    }
-}
-
-/// What stands before the value of a variable in the URL to which it leads.
-fn base_of_link(variable: TextVariable) -> Option<&'static str> {
-    match variable {
-        TextVariable::Url => Some(""),
-        TextVariable::Doi => Some("https://doi.org/"),
-        TextVariable::Pmid => Some("https://www.ncbi.nlm.nih.gov/pubmed/"),
-        TextVariable::Pmcid => Some("https://www.ncbi.nlm.nih.gov/pmc/articles/"),
-        _ => None,
     }
 }

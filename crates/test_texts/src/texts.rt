@@ -1,4 +1,7 @@
 //! Functions over plain text.
+use csl_texts::addresses::{
+    Identifier, identifier_address, last_address, resolver_at_end, url_address,
+};
 use csl_texts::cases::{Language, in_case};
 use csl_texts::initials::{Initials, in_initials};
 use csl_texts::numbers::{is_numeric, number_parts, roman};
@@ -117,4 +120,42 @@ pub fn language(alloc: Global, args: &[&str]) -> Result<Option<String>, AllocErr
             Language::Other => "other",
         },
     )
+}
+
+/// KIND TEXT: the address to which it leads
+pub fn address(alloc: Global, args: &[&str]) -> Result<Option<String>, AllocError> {
+    let [kind, linked] = args else {
+        return Ok(None);
+    };
+    let address = match identifier_of(*kind) {
+        Some(identifier) => identifier_address(alloc, identifier, *linked)?,
+        None => url_address(alloc, *linked)?,
+    };
+    match address {
+        Some(address) => Ok(Some(address)),
+        None => text(alloc, "none"),
+    }
+}
+
+/// KIND AFFIX: the end of the affix that is part of a link
+pub fn begun(alloc: Global, args: &[&str]) -> Result<Option<String>, AllocError> {
+    let [kind, affix] = args else {
+        return Ok(None);
+    };
+    text(
+        alloc,
+        match identifier_of(*kind) {
+            Some(identifier) => resolver_at_end(identifier, *affix),
+            None => last_address(*affix),
+        },
+    )
+}
+
+fn identifier_of(kind: &str) -> Option<Identifier> {
+    match kind {
+        "DOI" => Some(Identifier::Doi),
+        "PMID" => Some(Identifier::Pmid),
+        "PMCID" => Some(Identifier::Pmcid),
+        _ => None,
+    }
 }

@@ -3,6 +3,7 @@ html.parser, the others by pandoc, where it is installed."""
 import html.parser
 import itertools
 import json
+import re
 import shutil
 import subprocess
 import unicodedata
@@ -10,7 +11,8 @@ import unicodedata
 import pytest
 
 import gamhilon
-from gamhilon._writing import anchor, safe_url
+from conftest import ROOT
+from gamhilon._writing import SCHEMES, anchor, safe_url
 
 HOSTILE = [
     '<script>alert(1)</script>', '& &amp; &#60;', '"quoted" \'single\'', '</p><div id="x">',
@@ -78,7 +80,7 @@ def test_html_has_the_letters_and_no_tags_but_its_own(text, style, weight):
 @pytest.mark.parametrize('url', [
     'javascript:alert(1)', 'JavaScript:alert(1)', ' javascript:alert(1)', 'java\nscript:alert(1)',
     '\x01javascript:x', 'data:text/html,x', 'vbscript:x', 'file:///etc/passwd', '//example.org',
-    'example.org', '', 'https', 'ht\ttps://x', 'https://x\x00y',
+    'example.org', '', 'https', 'ftp://x', 'doi:http://example.org/',
 ])
 def test_only_safe_addresses_are_links(url):
     tree = [node('shown', url=url)]
@@ -92,11 +94,29 @@ def test_only_safe_addresses_are_links(url):
     ('HTTP://example.org/', 'HTTP://example.org/'), ('mailto:a@b.example', 'mailto:a@b.example'),
     ('doi:10.1000/182', 'https://doi.org/10.1000/182'),
     ('https://example.org/é %41', 'https://example.org/%C3%A9%20%41'),
+    ('ht\ttps://x', 'https://x'), ('https://x\x00y', 'https://xy'),
 ])
 def test_safe_addresses_are_written_as_addresses(url, wanted):
     tree = [node('shown', url=url)]
     assert Reader(gamhilon.to_html(tree)).tags == [('a', {'href': wanted})]
     assert gamhilon.to_markdown(tree) == f'[shown](<{wanted}>)'
+
+
+def rows_of_addresses():
+    with open(ROOT + '/tests/texts/addresses.tsv', encoding='utf-8') as file:
+        rows = [line.split('\t') for line in file.read().split('\n')]
+    return [row[2:] for row in rows if row[:2] == ['address', 'url']]
+
+
+@pytest.mark.parametrize('url, wanted', rows_of_addresses())
+def test_links_lead_where_those_of_the_writer_of_styles_do(url, wanted):
+    assert safe_url(url) == (None if wanted == 'none' else wanted)
+
+
+def test_the_schemes_of_links_are_those_of_the_writer_of_styles():
+    with open(ROOT + '/crates/csl_texts/src/addresses.rt', encoding='utf-8') as file:
+        listed = re.search(r'pub const SCHEMES: [^=]*= &\[(.*?)\];', file.read()).group(1)
+    assert re.findall('"(.*?)"', listed) == list(SCHEMES)
 
 
 def inlines_by_pandoc(text, form):

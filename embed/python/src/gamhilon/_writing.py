@@ -9,10 +9,15 @@ from .answer import Node, Tree
 
 Escape = Callable[[str], str]
 
+# The schemes of links, as in crates/csl_texts/src/addresses.rt.
+SCHEMES = ('doi', 'http', 'https', 'mailto')
+_SAFE = "/:@!$&'()*+,;=~-._"
+_SAFE_IN_URL = _SAFE + '%?#[]'
 _FORMATS = {'font_weight': ('bold',), 'font_style': ('italic',), 'font_variant': ('small-caps',),
             'text_decoration': ('underline',), 'vertical_align': ('sup', 'sub')}
-_SCHEME = re.compile(r'(https?|mailto|doi):', re.IGNORECASE)
 _CONTROL = re.compile('[\x00-\x1f\x7f-\x9f\u2028\u2029]')
+_BLANK = re.compile(r'[\s\x00-\x1f\x7f-\x9f]')
+_RESOLVER = re.compile(r'(https?://(dx\.|www\.)?doi\.org/)', re.IGNORECASE)
 _OUTSIDE_ID = re.compile(r'[^A-Za-z0-9.:_-]|_(?![A-Za-z0-9.:-])')
 
 
@@ -35,14 +40,30 @@ def single_spaced(text: str) -> str:
 
 
 def safe_url(url: str) -> Optional[str]:
-    """The address that a link may lead to: of http, https, mailto or doi; or None. A doi leads to
-    doi.org."""
-    scheme = _SCHEME.match(url)
-    if not scheme or _CONTROL.search(url):
+    """The address that a link may lead to, with escapes; or None. It has one of the schemes, in any
+    case. A doi leads to doi.org. White space around it and in its scheme, and control characters,
+    don't count."""
+    before, colon, rest = url.partition(':')
+    scheme, rest = _BLANK.sub('', before), _CONTROL.sub('', rest).strip()
+    if not colon or scheme.lower() not in SCHEMES:
         return None
-    if scheme.group(1).lower() == 'doi':
-        url = 'https://doi.org/' + url[scheme.end():].lstrip('/')
-    return quote(url.encode('utf-8', 'replace'), safe="%/:?#[]@!$&'()*+,;=~-._")
+    if scheme.lower() == 'doi':
+        return _doi_url(rest)
+    return f'{scheme}:{_escaped(rest, _SAFE_IN_URL)}'
+
+
+def _doi_url(text: str) -> Optional[str]:
+    """The address of a DOI, which may stand behind that of a resolver."""
+    resolver = _RESOLVER.match(text)
+    name = text[resolver.end():] if resolver else text
+    registrant, _, rest = name.partition('/')
+    if not registrant.startswith('10.') or not rest:
+        return None
+    return 'https://doi.org/' + _escaped(name, _SAFE + '%' if resolver else _SAFE)
+
+
+def _escaped(text: str, safe: str) -> str:
+    return quote(text.encode('utf-8', 'replace'), safe=safe)
 
 
 def anchor(key: str) -> str:
