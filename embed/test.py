@@ -13,7 +13,6 @@ import collections
 import glob
 import json
 import os
-import resource
 import subprocess
 import sys
 import tempfile
@@ -36,6 +35,10 @@ TEN = ['rows/*.json', 'layouts/*.json', 'disambiguation/*.json', 'grouping/*.jso
        'collapsing/*.json', 'bibliography/*.json', 'parts/*.json', 'purposes/*.json',
        'hostile/*.json', 'refused/*.json']
 FEW_CALLS = 300
+VALGRIND = ['valgrind', '-q', '--error-exitcode=9', '--leak-check=full',
+            '--errors-for-leak-kinds=all']
+# In how many processes the tests of the Python package run.
+SHARES = 4
 
 
 class Case:
@@ -156,17 +159,31 @@ def borders(path, depth, elements):
     return rows + ([(path, depth, elements - 1, 8)] if elements else [])
 
 
+def ran_alone(*words):
+    """What a program that prints little gave and how it ended, and the seconds of a processor that
+    it alone took."""
+    with subprocess.Popen(words, stdout=subprocess.PIPE, stderr=subprocess.PIPE) as process:
+        out, error = process.stdout.read(), process.stderr.read()
+        _, status, used = os.wait4(process.pid, 0)
+        # (that of a signal counts too)
+        process.returncode = os.WEXITSTATUS(status) or os.WTERMSIG(status)
+    done = subprocess.CompletedProcess(words, process.returncode, out, error)
+    return done, used.ru_utime + used.ru_stime
+
+
 def hold_limits(folder, stack, rows):
     """Calls gamhilon_check_limits, in a thread of so much stack, with each of some rows: a
-    document, limits and the status."""
-    done = ran(f'{folder}/limits', str(stack),
-               *[str(word) for path, *limits, _ in rows for word in (*limits, path)])
+    document, limits and the status. Gives the seconds of a processor that this took."""
+    done, seconds = ran_alone(f'{folder}/limits', str(stack),
+                              *[str(word) for path, *limits, _ in rows
+                                for word in (*limits, path)])
     statuses = done.stdout.split()
     hold(done.returncode == 0 and len(statuses) == len(rows),
          f'limits in {stack} bytes of stack: {done.returncode}, {done.stderr!r}')
     for (path, depth, elements, status), got in zip(rows, statuses):
         hold(int(got) == status, f'{os.path.basename(path)}: limits {depth} and {elements}: '
              f'status {int(got)}, and not {status}')
+    return seconds
 
 
 def limits_of_cases(layouts, cases):
@@ -220,10 +237,7 @@ def try_much_work(folder, layouts):
              ELEMENTS, 8) for length in (24, 64)]
     rows.append((put(folder, 'many macros', layouts.many_macros(10000, ELEMENTS // 2)), 2, ELEMENTS,
                  0))
-    before = resource.getrusage(resource.RUSAGE_CHILDREN)
-    hold_limits(folder, STACK_TOLD, rows)
-    after = resource.getrusage(resource.RUSAGE_CHILDREN)
-    seconds = after.ru_utime + after.ru_stime - before.ru_utime - before.ru_stime
+    seconds = hold_limits(folder, STACK_TOLD, rows)
     hold(seconds < 5, f'limits of macros that double and of many macros: {seconds:.2f} s')
 
 
@@ -346,8 +360,7 @@ def try_hard_texts(folder, texts, answered):
     hold(done.returncode == 0,
          f'each allocation of texts refused in turn: {done.stdout.decode()[-600:]}')
     if has_tool('valgrind', 'leaks and wrong reads of texts'):
-        done = ran('valgrind', '-q', '--error-exitcode=9', '--leak-check=full',
-                   '--errors-for-leak-kinds=all', f'{folder}/cites', '1', *small, answered[0])
+        done = ran(*VALGRIND, f'{folder}/cites', '1', *small, answered[0])
         hold(done.returncode == 0, f'valgrind, texts: {done.stderr.decode()[:900]}')
     deep = [put_texts(folder, f'deep {number}', files) for number, files in enumerate(texts.DEEP)]
     hold([int(answer[0]) for answer, _ in answers_of_texts(folder, 1 << 16, deep)] == [0, 0, 2],
@@ -490,17 +503,18 @@ def python_with_pytest():
     return max(pythons, key=lambda python: sum(has(python, name) for name in names), default=None)
 
 
-def try_tests_of_the_package(folder):
-    """The package's own tests, counted one by one."""
+def try_tests_of_the_package(folder, share):
+    """The tests of a share of the files of the package's own, counted one by one."""
     python = python_with_pytest()
     if not python:
-        left_out.append(
-            'the tests of the Python package: there is no pytest (Debian: python3-pytest)')
+        left_out.append(f'share {share + 1} of {SHARES} of the tests of the Python package: there '
+                        'is no pytest (Debian: python3-pytest)')
         return
-    report = f'{folder}/pytest.xml'
+    report = f'{folder}/pytest_{share}.xml'
     environment = {name: value for name, value in os.environ.items() if name != 'GAMHILON_LIBRARY'}
-    words = ['-m', 'pytest', '-q', '-p', 'no:cacheprovider', f'--junitxml={report}', 'tests']
-    done = ran(python, *words, cwd=f'{HERE}/python', env=environment, timeout=900)
+    words = ['-m', 'pytest', '-q', '-p', 'no:cacheprovider', f'--junitxml={report}']
+    files = sorted(glob.glob(f'{HERE}/python/tests/test_*.py'))[share::SHARES]
+    done = ran(python, *words, *files, cwd=f'{HERE}/python', env=environment, timeout=900)
     hold(done.returncode == 0, f'pytest ends well: {done.stdout.decode()[-3000:]}')
     reasons = collections.Counter()
     is_there = os.path.exists(report)
@@ -534,7 +548,7 @@ def hold_stack(folder, paths, told=STACK_TOLD):
              f'{form} takes {size} bytes of stack, and the header tells {told}')
 
 
-def try_hard(folder, cases, calls):
+def try_hard(folder, cases):
     """Memory refused, threads, valgrind, and the need of stack."""
     few = [case.path for case in ten(cases)]
     hold(len(few) == 10, f'there are ten documents, one of each folder, and not {len(few)}')
@@ -544,33 +558,38 @@ def try_hard(folder, cases, calls):
     done = ran(f'{folder}/threads', *few)
     hold(done.returncode == 0, f'eight threads: {done.stdout.decode()}')
     if has_tool('valgrind', 'leaks and wrong reads'):
-        words = ['valgrind', '-q', '--error-exitcode=9', '--leak-check=full',
-                 '--errors-for-leak-kinds=all', f'{folder}/calls']
+        words = [*VALGRIND, f'{folder}/calls']
         with ThreadPoolExecutor(2) as pool:
             for form, done in zip(FORMS,
                                   pool.map(lambda form: ran(*words, form, '1', *few), FORMS)):
                 hold(done.returncode == 0, f'valgrind, {form}: {done.stderr.decode()[:900]}')
-        words = ['valgrind', '-q', '--error-exitcode=9', '--leak-check=full',
-                 '--errors-for-leak-kinds=all', '--fair-sched=yes']
-        done = ran(*words, f'{folder}/many', str(calls), *few, timeout=3600)
-        print(f'valgrind: {done.stdout.decode().strip()}')
-        hold(done.returncode == 0,
-             f'valgrind, {calls} calls in four threads: {done.stderr.decode()[:900]}')
     hold_stack(folder, [case.path for case in cases])
 
 
-def spent():
-    """The seconds of a processor that this process took, and those that it waited for."""
-    times = os.times()
-    return times.user + times.system + times.children_user + times.children_system
+def try_many_calls(folder, cases, calls):
+    """So many calls in four threads, watched by valgrind."""
+    if has_tool('valgrind', 'leaks and wrong reads of calls in threads'):
+        few = [case.path for case in ten(cases)]
+        done = ran(*VALGRIND, '--fair-sched=yes', f'{folder}/many', str(calls), *few, timeout=3600)
+        print(f'valgrind: {done.stdout.decode().strip()}')
+        hold(done.returncode == 0,
+             f'valgrind, {calls} calls in four threads: {done.stderr.decode()[:900]}')
 
 
 def timed(part, *arguments):
-    """What a part of the tests gives. Tells what it took."""
-    before = spent()
+    """What a part of the tests gives. Prints how long it took."""
+    began = time.monotonic()
     given = part(*arguments)
-    print(f'{part.__name__}: {spent() - before:.0f} s of a processor')
+    print(f'{part.__name__}: {time.monotonic() - began:.0f} s')
     return given
+
+
+def side_by_side(parts):
+    """Makes parts of the tests, each with its arguments, as many at a time as there are
+    processors."""
+    with ThreadPoolExecutor(os.cpu_count()) as pool:
+        for part in [pool.submit(timed, *part) for part in parts]:
+            part.result()
 
 
 def main(words):
@@ -580,7 +599,7 @@ def main(words):
     built = subprocess.run([sys.executable, f'{HERE}/build.py', *words]).returncode
     hold(built == 0, 'the library is built')
     if built == 0:
-        print(f'built in {time.time() - began:.0f} s, {spent():.0f} s of a processor')
+        print(f'built in {time.time() - began:.0f} s')
         began = time.time()
         cases = [Case(path)
                  for path in sorted(glob.glob(f'{ROOT}/tests/documents/*/*.json')
@@ -589,14 +608,18 @@ def main(words):
             timed(compile_all, folder)
             if not failures:
                 jsons = timed(try_from_c, folder, cases)
-                timed(try_from_python, cases, jsons)
-                timed(try_limits, folder, cases)
-                timed(try_driven, folder)
-                timed(try_texts, folder)
-                timed(try_driving)
-                timed(installing.try_building, folder)
-                timed(try_hard, folder, cases, calls)
-                timed(try_tests_of_the_package, folder)
+                # (the longest first, so that none is left alone at the end)
+                side_by_side([*[(try_tests_of_the_package, folder, share)
+                                for share in range(SHARES)],
+                              (try_many_calls, folder, cases, calls),
+                              (try_hard, folder, cases),
+                              (try_texts, folder),
+                              (installing.try_building, folder),
+                              (try_driving,),
+                              (try_limits, folder, cases),
+                              (try_from_python, cases, jsons),
+                              (try_driven, folder)])
+                # (it writes embed/out anew, which the others load)
                 timed(installing.try_packages, folder)
         print(f'{len(cases)} documents, {time.time() - began:.0f} s')
     for message in left_out:

@@ -26,8 +26,8 @@ def has_tool(name, what):
     return False
 
 
-def ran(*words, timeout=170, **how):
-    """What a program gave and how it ended."""
+def ran(*words, timeout=600, **how):
+    """What a program gave and how it ended. Others may run beside it."""
     return subprocess.run(words, capture_output=True, timeout=timeout, **how)
 
 

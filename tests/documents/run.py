@@ -246,7 +246,7 @@ HOLDS = 'as it should be'
 CASES = """
 pieces_and_marks renders_are_counted initials_of_given_names texts_are_copied lists_are_copied pieces_are_copied
 equal_entries_are_one note_numbers_in_notes cites_are_marked numbers_have_entries hidden_numbers_are_read
-suffixes_have_letters alike_mentions_have_letters writes_at_lent_places prepared_answers_alike years letters small_values
+suffixes_have_letters alike_mentions_have_letters writes_at_lent_places years letters small_values
 properties_are_compared means_raise_names locators_differ_by_kind shrinks_at_the_top
 """.split()
 
@@ -644,28 +644,18 @@ SWEPT_PASSES = {
 }
 # Those that are answered from a table.
 SWEPT_TABLES = ['disambiguation/suffix_by_entry', 'bibliography/author_substitution', 'csl/condition_and_then_a_suffix']
-# The calls of a writing context that take memory; each is made in a context of its own, whose text fills its spare memory.
-HEIGHTS = ['ensure_space', 'push_str', 'push_chunked', 'push_link', 'push_transparent', 'push_quotes', 'pop_quotes', 'write_str']
-HEIGHTS += ['push_format', 'pop_format', 'push_elem', 'commit_elem', 'discard_elem', 'push_delimiter', 'push_name_options']
-HEIGHTS += ['apply_prefix', 'has_content_since', 'apply_suffix', 'flush']
 # Those that render an entry without a driver, and copy an element.
 RENDERING = ['StyleContext::citation', 'date_replacement', 'Elem::clone']
 # Calls of the three programs of calls, which name them before they make them; the status is 5 where one is refused, but for `citation`.
 CALLS = ['read', 'prepare', 'citation', 'finish', 'finish_counted', 'finish_full', 'finish_csl', 'standalone_citation', 'run', 'clone', 'context', 'finish_with', 'drive', 'answer_by']
-CALLS += [*PASSES, *HEIGHTS, *RENDERING]
+CALLS += [*PASSES, *RENDERING]
 # Those that print before others are called.
 PRINT = ['standalone_citation', 'context', *PASSES, *RENDERING]
 MOST_GROWTHS = 100000
 # The calls that take no memory, in the order in which crates/test_calls makes them.
 FREE = """
-with_entry with_locator CitationItem::new kind with_last CitationRequest::new from_items BibliographyRequest::new BibliographyDriver::new
-with_citation_number_offset collapse_items left right Renders::new count for_sorting speculate for_bibliography add_name get_form_mut
-label number may_disambiguate_names may_disambiguate_with_choose may_disambiguate_with_year_suffix max StyleContext::new lookup_locale
-locale term punctuation_in_quotes pop_name_options pop_delimiter may_pull_punctuation may_strip_periods stop_stripping_periods
-ElemChildren::new is_empty has_content find_names find_names_mut find_meta find_elem_by last_text last_text_mut write_buf eq hash
-remove_any_meta Formatting::default apply add_text ElemChild::from_text ElemChild::from_elem len last last_mut last_mut_predicate
-first_mut pop cut finish key resolve_name_variable resolve_date_variable resolve_standard_variable resolve_number_variable
-citation_label write_year
+BibliographyDriver::new with_citation_number_offset with_last lookup_locale ElemChildren::new collapse_items
+write_buf remove_any_meta write_year
 """.split()
 
 
@@ -784,7 +774,7 @@ def sweep_of_free(shim, program, given):
 def sweeps_of_contexts(shim, program):
     """Those of the calls of a writing context, and of calls that render."""
     context, cites = HERE + '/words/calls_of_a_context', HERE + '/purposes/calls_of_a_style'
-    asked = [('context', ['context'], context, read(context + '.context')), ('heights', HEIGHTS, context, b''), ('cites', RENDERING, cites, read(cites + '.cites'))]
+    asked = [('context', ['context'], context, read(context + '.context')), ('cites', RENDERING, cites, read(cites + '.cites'))]
     return [('growths of ' + way, sweep_of_calls, shim, program, way, swept, read(base + '.json'), 0, printed) for way, swept, base, printed in asked]
 
 

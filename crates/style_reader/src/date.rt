@@ -102,10 +102,11 @@ fn part_of(element: &Element, reading: &mut Reading<'_>) -> Result<DatePart, Sto
     check(element, &DATE_PART, reading)?;
     let name = part_name(alloc, element)?;
     let (text_case, strip_periods) = wording_of(alloc, element)?;
+    let range_delimiter = text(alloc, element, "range-delimiter")?;
     let (affixes, formatting) = setting_of(alloc, element)?;
     Ok(DatePart {
         name,
-        range_delimiter: text(alloc, element, "range-delimiter")?,
+        range_delimiter,
         affixes,
         formatting,
         text_case,

@@ -150,11 +150,10 @@ fn locale_in(alloc: Global, root: &Element) -> Result<(LocaleFile, Vec<Note>), S
 
 /// The locale file that this root is.
 fn locale_file_of(root: &Element, reading: &mut Reading<'_>) -> Result<LocaleFile, Stop> {
-    let language = needed(reading.alloc, root, "xml:lang")?;
-    let locale = locale_of(root, reading)?;
+    let language = needed(reading.alloc, root, "xml:lang")?.value.clone()?;
     Ok(LocaleFile {
-        language: language.value.clone()?,
-        locale,
+        language,
+        locale: locale_of(root, reading)?,
     })
 }
 

@@ -26,10 +26,10 @@ pub(crate) fn style_locales(
 }
 
 fn style_locale(element: &Element, reading: &mut Reading<'_>) -> Result<StyleLocale, Stop> {
-    let locale = locale_of(element, reading)?;
+    let language = text(reading.alloc, element, "xml:lang")?;
     Ok(StyleLocale {
-        language: text(reading.alloc, element, "xml:lang")?,
-        locale,
+        language,
+        locale: locale_of(element, reading)?,
     })
 }
 

@@ -33,14 +33,15 @@ pub(crate) fn names_with(
     substitute: Vec<RenderingElement>,
     reading: &mut Reading<'_>,
 ) -> Result<Names, Stop> {
+    let alloc = reading.alloc;
+    let delimiter = text(alloc, element, "delimiter")?;
     let et_al = et_al_of(element, reading)?;
     let variables = name_variables(element, reading)?;
     let (name, label) = name_and_label(element, reading)?;
-    let alloc = reading.alloc;
     let display = display_of(alloc, element)?;
     let (affixes, formatting) = setting_of(alloc, element)?;
     Ok(Names {
-        delimiter: text(alloc, element, "delimiter")?,
+        delimiter,
         variables,
         name,
         et_al,
@@ -216,9 +217,10 @@ pub(crate) fn inherited_options(
     alloc: Global,
     element: &Element,
 ) -> Result<InheritedNameOptions, Stop> {
+    let names_delimiter = text(alloc, element, "names-delimiter")?;
     Ok(InheritedNameOptions {
         name: options_of(alloc, element, "name-form", "name-delimiter")?,
-        names_delimiter: text(alloc, element, "names-delimiter")?,
+        names_delimiter,
     })
 }
 

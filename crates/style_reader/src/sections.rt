@@ -24,12 +24,11 @@ use xml_reader::tree::{Attribute, Element};
 pub(crate) fn citation_of(element: &Element, reading: &mut Reading<'_>) -> Result<Citation, Stop> {
     check(element, &CITATION, reading)?;
     let options = citation_options(reading.alloc, element)?;
-    let body = body_of(element, reading)?;
     let Body {
         names,
         sort,
         layout,
-    } = body;
+    } = body_of(element, reading)?;
     Ok(Citation {
         options,
         names,
@@ -45,12 +44,11 @@ pub(crate) fn bibliography_of(
 ) -> Result<Bibliography, Stop> {
     check(element, &BIBLIOGRAPHY, reading)?;
     let options = bibliography_options(reading.alloc, element)?;
-    let body = body_of(element, reading)?;
     let Body {
         names,
         sort,
         layout,
-    } = body;
+    } = body_of(element, reading)?;
     Ok(Bibliography {
         options,
         names,
@@ -222,9 +220,10 @@ fn layout_with(
     layout: &Element,
     elements: Vec<RenderingElement>,
 ) -> Result<Layout, Stop> {
+    let delimiter = text_or_empty(alloc, layout, "delimiter")?;
     let (affixes, formatting) = setting_of(alloc, layout)?;
     Ok(Layout {
-        delimiter: text_or_empty(alloc, layout, "delimiter")?,
+        delimiter,
         elements,
         affixes,
         formatting,

@@ -84,12 +84,13 @@ fn dependent_of(
     parent: &Attribute,
     reading: &mut Reading<'_>,
 ) -> Result<DependentStyle, Stop> {
+    let parent = parent.value.clone()?;
     let info = info_of(root, reading)?;
     let default_locale = language_tag(reading.alloc, root, "default-locale")?;
     Ok(DependentStyle {
         info,
         default_locale,
-        parent: parent.value.clone()?,
+        parent,
     })
 }
 
@@ -99,14 +100,13 @@ fn independent_of(root: &Element, reading: &mut Reading<'_>) -> Result<CslStyle,
     let options = options_of(reading.alloc, root)?;
     let info = info_of(root, reading)?;
     let names = inherited_options(reading.alloc, root)?;
-    let parts = parts_of(root, reading)?;
     let default_locale = language_tag(reading.alloc, root, "default-locale")?;
     let StyleParts {
         locales,
         macros,
         citation,
         bibliography,
-    } = parts;
+    } = parts_of(root, reading)?;
     Ok(CslStyle {
         info,
         class,

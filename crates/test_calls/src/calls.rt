@@ -1,7 +1,7 @@
 //! A document's requests, handed to the driver one by one.
 
 use crate::account::{print_account, print_csl_account, print_refusal};
-use crate::equality::{print_copies, print_requests, print_wanted, properties_differ, word};
+use crate::equality::{print_copies, print_requests, print_wanted, word};
 use crate::free::calls_without_memory;
 use crate::passes::by_passes;
 use crate::streams::{Failing, Slow};
@@ -396,11 +396,7 @@ fn compare<'e, 'f: 'e>(
     let wanted = bibliography_asked(alloc, asking, &order, true)?;
     print_wanted(rt, &wanted);
     drop(wanted);
-    if properties_differ() {
-        Ok(Seen::Answer)
-    } else {
-        Ok(Seen::Amiss("properties are compared without a field of theirs"))
-    }
+    Ok(Seen::Answer)
 }
 
 /// Makes calls on the requests, and answers none.

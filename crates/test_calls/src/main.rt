@@ -70,7 +70,6 @@ fn seen_in_context(ended: Result<(), Ended>) -> Result<Seen, RunError> {
         Ok(()) => Ok(Seen::Answer),
         Err(Ended::Document) => Err(RunError::Document),
         Err(Ended::Refused) => Err(RunError::OutOfMemory),
-        Err(Ended::OtherHeights) => Ok(Seen::Amiss("a call left other heights")),
     }
 }
 

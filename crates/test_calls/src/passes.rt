@@ -169,42 +169,6 @@ fn mark_all(
     Ok(())
 }
 
-/// Whether two cites are equal in each part.
-fn is_same(cite: &Cite<'_>, other: &Cite<'_>) -> bool {
-    let entry = *cite.entry == *other.entry;
-    let rendered = cite.rendered == other.rendered;
-    let properties = cite.cite_props == other.cite_props;
-    let first_name = cite.first_name == other.first_name;
-    let delimiter = cite.delim_override == other.delim_override;
-    let block = cite.group_idx == other.group_idx;
-    let verdict = cite.collapse_verdict == other.collapse_verdict;
-    let is_written_alike = entry && rendered && properties && first_name;
-    is_written_alike && delimiter && block && verdict && is_asked_alike(cite, other)
-}
-
-/// Whether two cites are equal in what a caller asks of them and in how they may be disambiguated.
-fn is_asked_alike(cite: &Cite<'_>, other: &Cite<'_>) -> bool {
-    let locator = cite.locator == other.locator;
-    let locale = cite.locale == other.locale;
-    let purpose = cite.purpose == other.purpose;
-    let apart = cite.apart == other.apart;
-    let checked = cite.checked_disambiguate == other.checked_disambiguate;
-    locator && locale && purpose && apart && checked && cite.hidden == other.hidden
-}
-
-/// Whether the cites of two requests are.
-fn are_same(cites: &[Cite<'_>], others: &[Cite<'_>]) -> bool {
-    if cites.len() != others.len() {
-        return false;
-    }
-    for (k, cite) in cites.iter().enumerate() {
-        if !is_same(cite, &others[k]) {
-            return false;
-        }
-    }
-    true
-}
-
 fn print_cite(rt: &impl Print, cite: &Cite<'_>) {
     if let Some(block) = cite.group_idx {
         let _ = print!(rt; "block {block} ");
@@ -218,25 +182,18 @@ fn print_cite(rt: &impl Print, cite: &Cite<'_>) {
     let _ = println!(rt; "{}", cite.rendered);
 }
 
-/// Groups and collapses the cites of a request, and prints them; tells whether those of a refused
-/// call are as others that were made alike.
+/// Groups and collapses the cites of a request, and prints them.
 fn group_one(
     rt: &(impl Print + Eprint + AllocGlobal),
     cites: &mut Cites<'_, '_>,
-    alike: &Cites<'_, '_>,
-) -> Result<bool, RunError> {
+) -> Result<(), AllocError> {
     let _ = eprintln!(rt; "group_cites");
-    if group_cites(rt.alloc(), cites).is_err() {
-        if are_same(&cites.items, &alike.items) {
-            return Err(RunError::OutOfMemory);
-        }
-        return Ok(false);
-    }
+    group_cites(rt.alloc(), cites)?;
     collapse_items(cites);
     for cite in &cites.items {
         print_cite(rt, cite);
     }
-    Ok(true)
+    Ok(())
 }
 
 /// The item of this style's bibliography for this cite, if it has content, with its key.
@@ -293,24 +250,21 @@ fn substitute(
 fn change_each(
     rt: &(impl Print + Eprint + AllocGlobal),
     cites: &mut [Cites<'_, '_>],
-    alike: &[Cites<'_, '_>],
-) -> Result<bool, RunError> {
+) -> Result<(), AllocError> {
     for r in 0..cites.len() {
-        if r < alike.len() && !group_one(rt, &mut cites[r], &alike[r])? {
-            return Ok(false);
-        }
+        group_one(rt, &mut cites[r])?;
     }
-    Ok(true)
+    Ok(())
 }
 
 /// Marks the cites of these requests, and makes the calls that change them.
 fn pass_over(
     rt: &(impl Print + Eprint + AllocGlobal),
     requests: &[Request<'_>],
-) -> Result<bool, RunError> {
+) -> Result<(), RunError> {
     let mut cites = all_written(rt.alloc(), requests)?;
     mark_all(rt, &cites)?;
-    change_each(rt, &mut cites, &all_written(rt.alloc(), requests)?)
+    Ok(change_each(rt, &mut cites)?)
 }
 
 /// Calls the passes on the cites of these requests, and prints what they give.
@@ -318,9 +272,7 @@ pub fn by_passes(
     rt: &(impl Print + Eprint + AllocGlobal),
     requests: &[Request<'_>],
 ) -> Result<Seen, RunError> {
-    if !pass_over(rt, requests)? {
-        return Ok(Seen::Amiss("a refused request isn't as it was"));
-    }
+    pass_over(rt, requests)?;
     for request in requests {
         if let Some(bibliography) = &request.style().bibliography {
             substitute(rt, request, bibliography)?;

@@ -5,7 +5,6 @@ ghost use Rattle.csl_style_values.specs.Ring.{HasNoRing};
 ghost use Rattle.csl_writing.specs.ContextSource.{context_source};
 
 use crate::ended::Ended;
-use crate::heights::named;
 use csl_base::elem::ElemChildren;
 use csl_base::entry::PlainEntry;
 use csl_base::locale::Locale;
@@ -16,6 +15,11 @@ use csl_writing::counter::Renders;
 use csl_writing::lookup::StyleContext;
 use std::alloc::{AllocError, Global};
 use std::convert::Infallible;
+
+/// Names a call before it is made.
+fn named(rt: &impl Eprint, call: &str) {
+    let _ = eprintln!(rt; "{call}");
+}
 
 /// The style with these locale files.
 fn ringless<'a>(

@@ -20,13 +20,10 @@ use std::convert::Infallible;
 use std::fmt::Write;
 
 /// What is written under a style: its name options are the entry too, as nothing asks for one.
-pub(crate) type Writing<'a> = Context<'a, InheritableNameOptions, Infallible>;
+type Writing<'a> = Context<'a, InheritableNameOptions, Infallible>;
 
 /// A context in which nothing is written yet.
-pub(crate) fn begin<'a>(
-    alloc: Global,
-    style: &'a IndependentStyle,
-) -> Result<Writing<'a>, AllocError>
+fn begin<'a>(alloc: Global, style: &'a IndependentStyle) -> Result<Writing<'a>, AllocError>
     ensures formats { IfOk result (λ context. length (state context.writing).formats ≡ 1) }
     ensures options { IfOk result (λ context. length (state context.writing).name_options ≡ 1) }
 {
@@ -37,14 +34,14 @@ pub(crate) fn begin<'a>(
 
 /// The tree of what is written. A context is taken apart here alone: what is left of it has the proof
 /// go through all its parts.
-pub(crate) fn flushed(context: Writing<'_>) -> Result<ElemChildren, AllocError>
+fn flushed(context: Writing<'_>) -> Result<ElemChildren, AllocError>
     requires formats { length (state context.writing).formats ≡ 1 }
 {
     context.writing.flush()
 }
 
 /// This formula.
-pub(crate) fn formula(alloc: Global, text: &str) -> Result<ChunkedString, AllocError> {
+fn formula(alloc: Global, text: &str) -> Result<ChunkedString, AllocError> {
     let chunk = Chunk {
         value: Text::new(String::from_str(alloc, text)?),
         kind: ChunkKind::Math,
@@ -67,7 +64,7 @@ fn push_children(
     context.push_transparent(2)
 }
 
-pub(crate) fn affixes(alloc: Global, prefix: &str, suffix: &str) -> Result<Affixes, AllocError> {
+fn affixes(alloc: Global, prefix: &str, suffix: &str) -> Result<Affixes, AllocError> {
     Ok(Affixes {
         prefix: Some(String::from_str(alloc, prefix)?),
         suffix: Some(String::from_str(alloc, suffix)?),
@@ -141,7 +138,7 @@ fn push_delimited(context: &mut Writing<'_>) -> Result<(), AllocError>
     Ok(())
 }
 
-pub(crate) fn italic() -> StyleFormatting {
+fn italic() -> StyleFormatting {
     StyleFormatting {
         font_style: Some(FontStyle::Italic),
         ..StyleFormatting::default()

@@ -8,10 +8,8 @@ use std::alloc::AllocError;
 pub enum Ended {
     /// The document isn't one, or has no style.
     Document,
-    /// A call was refused, and the stacks are as high as before it; or what it needs was refused.
+    /// Memory was refused.
     Refused,
-    /// The stacks aren't.
-    OtherHeights,
 }
 
 impl From<AllocError> for Ended {

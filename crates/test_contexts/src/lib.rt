@@ -1,6 +1,6 @@
 //! Calls of a writing context by itself, in the first style of a document: what each call writes,
-//! that what is pushed comes off again, and that the stacks are as high as before where a call is
-//! refused; and calls that render an entry without a driver. `test_calls` has them made.
+//! and that what is pushed comes off again; and calls that render an entry without a driver.
+//! `test_calls` has them made.
 //!
 //! Before each call its name is written to standard error. What the calls write goes to standard
 //! output.
@@ -12,14 +12,12 @@
 mod cites;
 mod contexts;
 pub mod ended;
-mod heights;
 
 use cites::print_cites;
 use contexts::print_contexts;
 use csl_base::locale::Locale;
 use csl_base::style::IndependentStyle;
 use ended::Ended;
-use heights::keep_heights;
 use json_document::document::value_of;
 use json_document::entries::entries_of;
 use json_styles::locales::locales_at;
@@ -31,8 +29,6 @@ use serde_json::Value;
 pub enum ContextWay {
     /// Those of a writing context.
     Context,
-    /// The same, of which each looks at the heights of the stacks.
-    Heights,
     /// Those that render an entry.
     Cites,
 }
@@ -41,7 +37,6 @@ pub enum ContextWay {
 pub fn context_way(asked: &str) -> Option<ContextWay> {
     match asked {
         "context" => Some(ContextWay::Context),
-        "heights" => Some(ContextWay::Heights),
         "cites" => Some(ContextWay::Cites),
         _ => None,
     }
@@ -84,7 +79,6 @@ fn called(
 ) -> Result<(), Ended> {
     match way {
         ContextWay::Context => Ok(print_contexts(rt, style, locales)?),
-        ContextWay::Heights => keep_heights(rt, style),
         ContextWay::Cites => print_cites(rt, style, locales, &entries_of(rt.alloc(), document)?),
     }
 }

@@ -13,7 +13,7 @@ ghost use Rattle.std.specs.Prelude.{◌<◌, length, IfSome};
 mod show;
 
 use csl_json::fault::ReferencesError;
-use csl_json::reading::read_references;
+use csl_json::reading::{ReadReferences, read_references};
 use serde_json::Value;
 use show::push_read;
 use std::alloc::{AllocError, Global};
@@ -41,29 +41,46 @@ fn next_document(bytes: &[u8]) -> Option<(&[u8], &[u8])>
     behind.split_first()?.1.split_at_checked(length)
 }
 
+/// Names a call before it is made, where that is the task.
+fn named(rt: &impl Eprint, task: Task, call: &str) {
+    if task == Task::ShowCalls {
+        let _ = eprintln!(rt; "{call}");
+    }
+}
+
 /// What is printed of a document.
 fn lines_of(
     rt: &(impl Eprint + AllocGlobal),
     task: Task,
     document: &[u8],
 ) -> Result<String, AllocError> {
-    let alloc = rt.alloc();
-    if task == Task::ShowCalls {
-        let _ = eprintln!(rt; "read");
-    }
-    let outcome = read_references(alloc, document);
-    if task == Task::ShowCalls {
-        let _ = eprintln!(rt; "show");
-    }
+    named(rt, task, "read");
+    let outcome = read_references(rt.alloc(), document);
+    named(rt, task, "show");
+    shown(rt.alloc(), outcome)
+}
+
+/// What is printed of a document that was read, or of its fault.
+fn shown(
+    alloc: Global,
+    outcome: Result<ReadReferences, ReferencesError>,
+) -> Result<String, AllocError> {
     match outcome {
         Ok(read) => {
-            let mut lines = String::new(alloc);
-            push_read(&mut lines, &read)?;
-            Ok(lines)
+            let lines = lines_of_read(alloc, &read);
+            drop(read);
+            lines
         }
         Err(ReferencesError::OutOfMemory) => Err(AllocError),
         Err(fault) => format!(in alloc; "fault {fault}\n"),
     }
+}
+
+/// Lines for the references and warnings.
+fn lines_of_read(alloc: Global, read: &ReadReferences) -> Result<String, AllocError> {
+    let mut lines = String::new(alloc);
+    push_read(&mut lines, read)?;
+    Ok(lines)
 }
 
 /// How many references, or values, a document has.

@@ -110,16 +110,22 @@ fn push_part(out: &mut String, part: &str, text: &Option<String>) -> Result<(), 
 }
 
 fn push_person(out: &mut String, name: &PersonName) -> Result<(), AllocError> {
-    push_part(out, "given", &name.given)?;
-    push_part(out, "dropping", &name.dropping_particle)?;
-    push_part(out, "particle", &name.non_dropping_particle)?;
-    push_part(out, "family", &name.family)?;
-    push_part(out, "suffix", &name.suffix)?;
-    if name.has_comma_suffix {
-        out.push_str(" comma-suffix")?;
+    for (part, text) in [
+        ("given", &name.given),
+        ("dropping", &name.dropping_particle),
+        ("particle", &name.non_dropping_particle),
+        ("family", &name.family),
+        ("suffix", &name.suffix),
+    ] {
+        push_part(out, part, text)?;
     }
-    if name.has_static_ordering {
-        out.push_str(" static-ordering")?;
+    for (is_so, word) in [
+        (name.has_comma_suffix, " comma-suffix"),
+        (name.has_static_ordering, " static-ordering"),
+    ] {
+        if is_so {
+            out.push_str(word)?;
+        }
     }
     Ok(())
 }
@@ -140,30 +146,51 @@ fn push_names(out: &mut String, names: &[Name]) -> Result<(), AllocError> {
     Ok(())
 }
 
-/// Appends a reference: a line with its id and its type, and a line for each variable.
-fn push_reference(out: &mut String, reference: &Reference) -> Result<(), AllocError> {
+/// Appends the line of a variable that is a text.
+fn push_text_line(
+    out: &mut String,
+    kind: &str,
+    name: &str,
+    text: &RichText,
+) -> Result<(), AllocError> {
+    write!(out, "{kind} {name}")?;
+    push_rich(out, text)?;
+    out.push('\n')
+}
+
+fn push_date_line(out: &mut String, name: &str, date: &Date) -> Result<(), AllocError> {
+    write!(out, "date {name}")?;
+    push_date(out, date)?;
+    out.push('\n')
+}
+
+fn push_names_line(out: &mut String, name: &str, names: &[Name]) -> Result<(), AllocError> {
+    write!(out, "names {name}")?;
+    push_names(out, names)?;
+    out.push('\n')
+}
+
+/// Appends the line of a reference's id and type.
+fn push_head(out: &mut String, reference: &Reference) -> Result<(), AllocError> {
     out.push_str("reference ")?;
     push_quoted(out, reference.id.as_str())?;
-    writeln!(out, " {}", reference.item_type.name())?;
+    writeln!(out, " {}", reference.item_type.name())
+}
+
+/// Appends a reference: a line with its id and its type, and a line for each variable.
+fn push_reference(out: &mut String, reference: &Reference) -> Result<(), AllocError> {
+    push_head(out, reference)?;
     for (variable, text) in &reference.texts {
-        write!(out, "text {}", variable.name())?;
-        push_rich(out, text)?;
-        out.push('\n')?;
+        push_text_line(out, "text", variable.name(), text)?;
     }
     for (variable, text) in &reference.numbers {
-        write!(out, "number {}", variable.name())?;
-        push_rich(out, text)?;
-        out.push('\n')?;
+        push_text_line(out, "number", variable.name(), text)?;
     }
     for (variable, date) in &reference.dates {
-        write!(out, "date {}", variable.name())?;
-        push_date(out, date)?;
-        out.push('\n')?;
+        push_date_line(out, variable.name(), date)?;
     }
     for (variable, names) in &reference.names {
-        write!(out, "names {}", variable.name())?;
-        push_names(out, names)?;
-        out.push('\n')?;
+        push_names_line(out, variable.name(), names)?;
     }
     Ok(())
 }

@@ -26,7 +26,7 @@ use test_styles::styles::{entry, numeric, value_style};
 type Item<'a> = CitationItem<'a, PlainEntry, Infallible>;
 
 /// A request of plain entries.
-pub(crate) type Request<'a> = CitationRequest<'a, PlainEntry, Infallible>;
+type Request<'a> = CitationRequest<'a, PlainEntry, Infallible>;
 
 /// A driver that takes such requests.
 pub(crate) type Driver<'a> = BibliographyDriver<'a, PlainEntry, Infallible>;
@@ -40,7 +40,7 @@ fn entries_of(alloc: Global, keys: &[&str]) -> Result<Vec<PlainEntry>, AllocErro
 }
 
 /// A request that cites the entry.
-pub(crate) fn cite<'a>(
+fn cite<'a>(
     alloc: Global,
     style: &'a IndependentStyle,
     cited: &'a PlainEntry,
@@ -73,7 +73,7 @@ pub(crate) fn take_each<'a>(
 }
 
 /// The answer to one request.
-pub(crate) fn answer<'a>(
+fn answer<'a>(
     alloc: Global,
     request: Request<'a>,
     wanted: BibliographyRequest<'a, 'a, PlainEntry>,

@@ -19,7 +19,6 @@ mod laws;
 mod means;
 mod paths;
 mod places;
-mod prepared;
 mod rings;
 mod small;
 mod stacks;
@@ -35,7 +34,6 @@ use laws::{
 };
 use means::means_raise_names;
 use places::writes_at_lent_places;
-use prepared::prepared_answers_alike;
 use small::{letters, locators_differ_by_kind, properties_are_compared, small_values, years};
 use stacks::shrinks_at_the_top;
 use std::process::ExitCode;
@@ -73,7 +71,6 @@ fn hold(rt: &(impl Print + AllocGlobal)) -> bool {
             alike_mentions_have_letters(alloc),
         ),
         ("writes_at_lent_places", writes_at_lent_places(alloc)),
-        ("prepared_answers_alike", prepared_answers_alike(alloc)),
         ("years", Ok(years(alloc))),
         ("letters", letters(alloc)),
         ("small_values", Ok(small_values())),

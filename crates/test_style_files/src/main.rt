@@ -95,31 +95,36 @@ fn next_file(bytes: &[u8]) -> Option<(&[u8], &[u8])>
     behind.split_first()?.1.split_at_checked(length)
 }
 
+/// Names a call before it is made, where that is the task.
+fn named(rt: &impl Eprint, task: Task, call: &str) {
+    if task == Task::Calls {
+        let _ = eprintln!(rt; "{call}");
+    }
+}
+
 /// What is printed of a file.
 fn lines_of(
     rt: &(impl Eprint + AllocGlobal),
     task: Task,
     text: &str,
 ) -> Result<String, AllocError> {
-    let alloc = rt.alloc();
-    if task == Task::Calls {
-        let _ = eprintln!(rt; "read");
-    }
-    let outcome = read_file(alloc, text);
-    if task == Task::Calls {
-        let _ = eprintln!(rt; "show");
-    }
+    named(rt, task, "read");
+    let outcome = read_file(rt.alloc(), text);
+    named(rt, task, "show");
+    shown(rt.alloc(), task, outcome)
+}
+
+/// What is printed of a file that was read, or of its fault.
+fn shown(
+    alloc: Global,
+    task: Task,
+    outcome: Result<(CslFile, Vec<Warning>), StyleError>,
+) -> Result<String, AllocError> {
     match outcome {
-        Ok((file, warnings)) => {
-            let mut lines = warning_lines(alloc, &warnings)?;
-            let dump = dump_of(alloc, &file)?;
-            if task == Task::Show {
-                lines.push_str(dump.as_str())?;
-            } else {
-                let digest = u128::from_be_bytes(Md5::digest(dump.as_bytes()));
-                writeln!(lines, "digest {digest:032x}")?;
-            }
-            Ok(lines)
+        Ok(read) => {
+            let lines = lines_of_file(alloc, task, &read.0, &read.1);
+            drop(read);
+            lines
         }
         Err(StyleError::Malformed(fault, place)) => {
             format!(in alloc; "error {} {} {fault}\n", place.line, place.column)
@@ -129,6 +134,28 @@ fn lines_of(
         }
         Err(StyleError::OutOfMemory) => Err(AllocError),
     }
+}
+
+/// A line for each warning, and what the file says, or the digest of it.
+fn lines_of_file(
+    alloc: Global,
+    task: Task,
+    file: &CslFile,
+    warnings: &[Warning],
+) -> Result<String, AllocError> {
+    let mut lines = warning_lines(alloc, warnings)?;
+    let dump = dump_of(alloc, file)?;
+    if task == Task::Show {
+        lines.push_str(dump.as_str())?;
+    } else {
+        push_digest(&mut lines, dump.as_bytes())?;
+    }
+    Ok(lines)
+}
+
+fn push_digest(lines: &mut String, bytes: &[u8]) -> Result<(), AllocError> {
+    let digest = u128::from_be_bytes(Md5::digest(bytes));
+    writeln!(lines, "digest {digest:032x}")
 }
 
 /// A line for each warning.

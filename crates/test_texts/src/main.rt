@@ -11,11 +11,14 @@ mod streams;
 mod texts;
 mod worded;
 
+use cite_locale::chain::LocaleChain;
 use ended::Ended;
+use locales::files;
 use std::alloc::{AllocError, Global};
 use std::process::ExitCode;
 use std::rt::{Env, Files};
 use std::{env, fs, io};
+use style_file::locale::LocaleFile;
 
 /// The table as text.
 fn table(rt: &(impl Files + Env + Input + AllocGlobal)) -> Result<String, Ended> {
@@ -26,7 +29,12 @@ fn table(rt: &(impl Files + Env + Input + AllocGlobal)) -> Result<String, Ended>
 }
 
 /// What a function gives; `None` where there is no such function of so many arguments.
-fn given(alloc: Global, function: &str, args: &[&str]) -> Result<Option<String>, AllocError> {
+fn given(
+    alloc: Global,
+    files: &[LocaleFile],
+    function: &str,
+    args: &[&str],
+) -> Result<Option<String>, AllocError> {
     match function {
         "pages" => texts::pages(alloc, args),
         "numeric" => texts::numeric(alloc, args),
@@ -37,24 +45,45 @@ fn given(alloc: Global, function: &str, args: &[&str]) -> Result<Option<String>,
         "language" => texts::language(alloc, args),
         "address" => texts::address(alloc, args),
         "begun" => texts::begun(alloc, args),
-        "rich" => streams::rich(alloc, args),
-        "plain" => streams::plain(alloc, args),
-        "written" => streams::written(alloc, args),
-        _ => in_words(alloc, function, args),
+        "term-of" => worded::term_of(alloc, args),
+        "plural" => worded::plural(alloc, args),
+        "sorted" => worded::sorted(alloc, args),
+        "date" => worded::date(alloc, files, args),
+        _ => in_locale(alloc, files, function, args),
     }
 }
 
-/// What a function over the words of locales gives.
-fn in_words(alloc: Global, function: &str, args: &[&str]) -> Result<Option<String>, AllocError> {
+/// What a function in the words of a locale gives, which its first argument names.
+fn in_locale(
+    alloc: Global,
+    files: &[LocaleFile],
+    function: &str,
+    args: &[&str],
+) -> Result<Option<String>, AllocError> {
+    let [tag, args @ ..] = args else {
+        return Ok(None);
+    };
+    let locales = LocaleChain::new(alloc, *tag, &[], files)?;
+    let made = in_words(alloc, &locales, function, args);
+    drop(locales);
+    made
+}
+
+/// What a function in the words of these locales gives.
+fn in_words(
+    alloc: Global,
+    locales: &LocaleChain<'_>,
+    function: &str,
+    args: &[&str],
+) -> Result<Option<String>, AllocError> {
     match function {
-        "term" => worded::term(alloc, args),
-        "term-of" => worded::term_of(alloc, args),
-        "number" => worded::number(alloc, args),
-        "page" => worded::page(alloc, args),
-        "plural" => worded::plural(alloc, args),
-        "locator" => worded::locator(alloc, args),
-        "date" => worded::date(alloc, args),
-        "sorted" => worded::sorted(alloc, args),
+        "rich" => streams::rich(alloc, locales, args),
+        "plain" => streams::plain(alloc, locales, args),
+        "written" => streams::written(alloc, locales, args),
+        "term" => worded::term(alloc, locales, args),
+        "number" => worded::number(alloc, locales, args),
+        "page" => worded::page(alloc, locales, args),
+        "locator" => worded::locator(alloc, locales, args),
         _ => Ok(None),
     }
 }
@@ -68,37 +97,66 @@ fn words(alloc: Global, call: &str) -> Result<Vec<&str>, AllocError> {
     Ok(words)
 }
 
-/// Whether a line holds; if not, it is printed with what the function gives.
-fn holds(rt: &(impl Print + AllocGlobal), number: usize, line: &str) -> Result<bool, Ended> {
-    let (call, expected) = line.rsplit_once('\t').unwrap_or((line, ""));
-    let words = words(rt.alloc(), call)?;
-    let made = match words.as_slice() {
-        [function, args @ ..] => given(rt.alloc(), *function, args)?,
-        [] => None,
-    };
-    match made {
-        Some(made) if made.as_str() == expected => Ok(true),
-        Some(made) => {
-            println!(rt; "{number}: {call}: {made}, and not {expected}")?;
-            Ok(false)
-        }
-        None => {
-            println!(rt; "{number}: {call}: no such function of so many arguments")?;
-            Ok(false)
-        }
+/// What a call gives; `None` where there is no such function of so many arguments.
+fn called(alloc: Global, files: &[LocaleFile], call: &str) -> Result<Option<String>, AllocError> {
+    let words = words(alloc, call)?;
+    match words.as_slice() {
+        [function, args @ ..] => given(alloc, files, *function, args),
+        [] => Ok(None),
     }
 }
 
-/// Whether all lines of the table hold.
-fn hold(rt: &(impl Files + Env + Input + Print + AllocGlobal)) -> Result<bool, Ended> {
-    let table = table(rt)?;
+/// Whether a call gave what is expected.
+fn is_given(made: &Option<String>, expected: &str) -> bool {
+    match made {
+        Some(made) => made.as_str() == expected,
+        None => false,
+    }
+}
+
+/// Prints what a line that doesn't hold gives.
+fn print_other(
+    rt: &impl Print,
+    number: usize,
+    line: &str,
+    made: &Option<String>,
+) -> io::Result<()> {
+    let made = match made {
+        Some(made) => made.as_str(),
+        None => "no such function of so many arguments",
+    };
+    println!(rt; "{number}: {line}: {made}")
+}
+
+/// Whether a line holds; if not, it is printed with what the function gives.
+fn holds(
+    rt: &(impl Print + AllocGlobal),
+    files: &[LocaleFile],
+    number: usize,
+    line: &str,
+) -> Result<bool, Ended> {
+    let (call, expected) = line.rsplit_once('\t').unwrap_or((line, ""));
+    let made = called(rt.alloc(), files, call)?;
+    let holds = is_given(&made, expected);
+    if !holds {
+        print_other(rt, number, line, &made)?;
+    }
+    Ok(holds)
+}
+
+/// Whether all these lines hold; prints how many did and how many did not.
+fn all_hold(
+    rt: &(impl Print + AllocGlobal),
+    files: &[LocaleFile],
+    lines: &str,
+) -> Result<bool, Ended> {
     let mut passed = 0usize;
     let mut failed = 0usize;
-    for (place, line) in table.as_str().lines().enumerate() {
+    for (place, line) in lines.lines().enumerate() {
         if line.is_empty() || line.starts_with('#') {
             continue;
         }
-        if holds(rt, place.saturating_add(1), line)? {
+        if holds(rt, files, place.saturating_add(1), line)? {
             passed = passed.saturating_add(1);
         } else {
             failed = failed.saturating_add(1);
@@ -106,6 +164,15 @@ fn hold(rt: &(impl Files + Env + Input + Print + AllocGlobal)) -> Result<bool, E
     }
     println!(rt; "{passed} passed, {failed} failed")?;
     Ok(failed == 0)
+}
+
+/// Whether all lines of the table hold.
+fn hold(rt: &(impl Files + Env + Input + Print + AllocGlobal)) -> Result<bool, Ended> {
+    let table = table(rt)?;
+    let files = files(rt.alloc())?;
+    let hold = all_hold(rt, &files, table.as_str());
+    drop(files);
+    hold
 }
 
 fn main(rt: HostRuntime) -> ExitCode {

@@ -1,9 +1,9 @@
 //! Functions over streams.
-use crate::locales::files;
 use crate::texts::case_of;
 use cite_locale::chain::LocaleChain;
 use cite_pieces::html::html;
 use cite_pieces::output::{AffixPlace, Element, Output};
+use cite_pieces::pieces::Pieces;
 use cite_pieces::plain::plain_text;
 use cite_pieces::punctuation::punctuated;
 use csl_references::rich_text::RichText;
@@ -12,51 +12,79 @@ use style_file::formatting::{
     Display, FontStyle, FontVariant, FontWeight, Formatting, TextDecoration, VerticalAlign,
 };
 
-/// LOCALE TEXT: a text with markup, as HTML.
-pub fn rich(alloc: Global, args: &[&str]) -> Result<Option<String>, AllocError> {
-    let [tag, text] = args else {
+/// What is written of a text with markup.
+fn pieces_of_rich(
+    alloc: Global,
+    locales: &LocaleChain<'_>,
+    text: &str,
+) -> Result<Pieces, AllocError> {
+    let mut output = Output::new(alloc, locales.language());
+    push_markup(&mut output, text)?;
+    output.finish()
+}
+
+/// TEXT: a text with markup, as HTML.
+pub fn rich(
+    alloc: Global,
+    locales: &LocaleChain<'_>,
+    args: &[&str],
+) -> Result<Option<String>, AllocError> {
+    let [text] = args else {
         return Ok(None);
     };
-    let files = files(alloc)?;
-    let locales = LocaleChain::new(alloc, *tag, &[], &files)?;
-    let mut output = Output::new(alloc, locales.language());
-    output.push_rich(&RichText::of_markup(alloc, *text)?)?;
-    let pieces = output.finish()?;
+    let pieces = pieces_of_rich(alloc, locales, *text)?;
     Ok(Some(html(alloc, &pieces, locales.quote_marks())?))
 }
 
-/// LOCALE TEXT: a text with markup, as plain text.
-pub fn plain(alloc: Global, args: &[&str]) -> Result<Option<String>, AllocError> {
-    let [tag, text] = args else {
+/// TEXT: a text with markup, as plain text.
+pub fn plain(
+    alloc: Global,
+    locales: &LocaleChain<'_>,
+    args: &[&str],
+) -> Result<Option<String>, AllocError> {
+    let [text] = args else {
         return Ok(None);
     };
-    let files = files(alloc)?;
-    let locales = LocaleChain::new(alloc, *tag, &[], &files)?;
-    let mut output = Output::new(alloc, locales.language());
-    output.push_rich(&RichText::of_markup(alloc, *text)?)?;
-    let pieces = output.finish()?;
+    let pieces = pieces_of_rich(alloc, locales, *text)?;
     Ok(Some(plain_text(alloc, &pieces, locales.quote_marks())?))
 }
 
-/// LOCALE STEP..: what is written step by step, with its punctuation in order, as HTML. A step
-/// opens an element (`{` with its attributes, apart by `|`), closes it (`}`), discards it (`!`), or
-/// adds a text (behind `=`) or a text with markup (behind `~`).
-pub fn written(alloc: Global, args: &[&str]) -> Result<Option<String>, AllocError> {
-    let [tag, steps @ ..] = args else {
-        return Ok(None);
-    };
-    let files = files(alloc)?;
-    let locales = LocaleChain::new(alloc, *tag, &[], &files)?;
+/// STEP..: what is written step by step, with its punctuation in order, as HTML. A step opens an
+/// element (`{` with its attributes, apart by `|`), closes it (`}`), discards it (`!`), or adds a
+/// text (behind `=`) or a text with markup (behind `~`).
+pub fn written(
+    alloc: Global,
+    locales: &LocaleChain<'_>,
+    steps: &[&str],
+) -> Result<Option<String>, AllocError> {
     let mut output = Output::new(alloc, locales.language());
-    for step in steps {
-        if !push_step(&mut output, *step)? {
-            return Ok(None);
-        }
+    if !push_steps(&mut output, steps)? {
+        return Ok(None);
     }
+    Ok(Some(punctuated_html(alloc, locales, output)?))
+}
+
+/// What is written, with its punctuation in order, as HTML.
+fn punctuated_html(
+    alloc: Global,
+    locales: &LocaleChain<'_>,
+    output: Output<'_>,
+) -> Result<String, AllocError> {
     let in_quotes = locales.has_punctuation_in_quotes();
     let pieces = punctuated(alloc, output.finish()?, in_quotes)?;
-    Ok(Some(html(alloc, &pieces, locales.quote_marks())?))
+    html(alloc, &pieces, locales.quote_marks())
 }
+
+/// Does these steps. Tells whether each is one.
+fn push_steps<'s>(output: &mut Output<'s>, steps: &[&'s str]) -> Result<bool, AllocError> {
+    for step in steps {
+        if !push_step(output, *step)? {
+            return Ok(false);
+        }
+    }
+    Ok(true)
+}
+
 /// Does a step. Tells whether it is one.
 fn push_step<'s>(output: &mut Output<'s>, step: &'s str) -> Result<bool, AllocError> {
     if let Some(attributes) = step.strip_prefix('{') {
@@ -68,12 +96,17 @@ fn push_step<'s>(output: &mut Output<'s>, step: &'s str) -> Result<bool, AllocEr
     } else if let Some(text) = step.strip_prefix('=') {
         output.push_str(text)?;
     } else if let Some(text) = step.strip_prefix('~') {
-        let alloc = output.alloc();
-        output.push_rich(&RichText::of_markup(alloc, text)?)?;
+        push_markup(output, text)?;
     } else {
         return Ok(false);
     }
     Ok(true)
+}
+
+/// Adds a text with markup.
+fn push_markup(output: &mut Output<'_>, text: &str) -> Result<(), AllocError> {
+    let text = RichText::of_markup(output.alloc(), text)?;
+    output.push_rich(&text)
 }
 
 fn element_of(attributes: &str) -> Element<'_> {

@@ -1,5 +1,5 @@
 //! Functions over the words of locales: terms, ordinals, numbers, locators and dates.
-use crate::locales::{PLAIN, affixes, files, part};
+use crate::locales::{PLAIN, affixes, part};
 use cite_dates::sorting::sorted_date;
 use cite_dates::write::{DateOptions, push_date};
 use cite_locale::chain::LocaleChain;
@@ -7,6 +7,7 @@ use cite_numbers::forms::{number_text, pages};
 use cite_numbers::locators::locator_parts;
 use cite_numbers::plurals::is_plural;
 use cite_pieces::output::Output;
+use cite_pieces::pieces::Pieces;
 use cite_pieces::plain::plain_text;
 use csl_references::date::Date;
 use csl_vocabulary::item_type::ItemType;
@@ -22,16 +23,18 @@ use style_file::element::NumberForm;
 use style_file::locale::LocaleFile;
 use style_file::names::LabelPlural;
 
-/// LOCALE TERM FORM one|many
-pub fn term(alloc: Global, args: &[&str]) -> Result<Option<String>, AllocError> {
-    let [tag, name, form, count] = args else {
+/// TERM FORM one|many
+pub fn term(
+    alloc: Global,
+    locales: &LocaleChain<'_>,
+    args: &[&str],
+) -> Result<Option<String>, AllocError> {
+    let [name, form, count] = args else {
         return Ok(None);
     };
     let (Some(name), Some(form)) = (TermName::of_name(*name), TermForm::of_name(*form)) else {
         return Ok(None);
     };
-    let files = files(alloc)?;
-    let locales = LocaleChain::new(alloc, *tag, &[], &files)?;
     let words = locales.term(name, form, *count == "many");
     Ok(Some(String::from_str(alloc, words.unwrap_or("none"))?))
 }
@@ -57,13 +60,15 @@ fn plain_term_of(kind: &str, name: &str) -> Option<PlainTerm> {
     }
 }
 
-/// LOCALE FORM GENDER TEXT
-pub fn number(alloc: Global, args: &[&str]) -> Result<Option<String>, AllocError> {
-    let [tag, form, gender, text] = args else {
+/// FORM GENDER TEXT
+pub fn number(
+    alloc: Global,
+    locales: &LocaleChain<'_>,
+    args: &[&str],
+) -> Result<Option<String>, AllocError> {
+    let [form, gender, text] = args else {
         return Ok(None);
     };
-    let files = files(alloc)?;
-    let locales = LocaleChain::new(alloc, *tag, &[], &files)?;
     let form = match *form {
         "ordinal" => NumberForm::Ordinal,
         "long-ordinal" => NumberForm::LongOrdinal,
@@ -71,17 +76,19 @@ pub fn number(alloc: Global, args: &[&str]) -> Result<Option<String>, AllocError
         _ => NumberForm::Numeric,
     };
     let gender = Gender::of_name(*gender);
-    Ok(Some(number_text(alloc, &locales, *text, form, gender)?))
+    Ok(Some(number_text(alloc, locales, *text, form, gender)?))
 }
 
-/// LOCALE TEXT: pages without a format.
-pub fn page(alloc: Global, args: &[&str]) -> Result<Option<String>, AllocError> {
-    let [tag, text] = args else {
+/// TEXT: pages without a format.
+pub fn page(
+    alloc: Global,
+    locales: &LocaleChain<'_>,
+    args: &[&str],
+) -> Result<Option<String>, AllocError> {
+    let [text] = args else {
         return Ok(None);
     };
-    let files = files(alloc)?;
-    let locales = LocaleChain::new(alloc, *tag, &[], &files)?;
-    Ok(Some(pages(alloc, &locales, *text, None)?))
+    Ok(Some(pages(alloc, locales, *text, None)?))
 }
 
 /// VARIABLE TEXT
@@ -100,25 +107,31 @@ pub fn plural(alloc: Global, args: &[&str]) -> Result<Option<String>, AllocError
     Ok(Some(String::from_str(alloc, word)?))
 }
 
-/// LOCALE LABEL TEXT: the parts, each with its label before it.
-pub fn locator(alloc: Global, args: &[&str]) -> Result<Option<String>, AllocError> {
-    let [tag, label, text] = args else {
+/// LABEL TEXT: the parts, each with its label before it.
+pub fn locator(
+    alloc: Global,
+    locales: &LocaleChain<'_>,
+    args: &[&str],
+) -> Result<Option<String>, AllocError> {
+    let [label, text] = args else {
         return Ok(None);
     };
     let Some(label) = LocatorType::of_name(*label) else {
         return Ok(None);
     };
-    let files = files(alloc)?;
-    let locales = LocaleChain::new(alloc, *tag, &[], &files)?;
     let mut out = String::new(alloc);
-    for part in locator_parts(alloc, &locales, *text, label)? {
+    for part in locator_parts(alloc, locales, *text, label)? {
         write!(out, "{}{}:{}", part.before, part.label.name(), part.text)?;
     }
     Ok(Some(out))
 }
 
 /// LOCALE ELEMENT SUFFIX DATE; the suffix stands behind the year.
-pub fn date(alloc: Global, args: &[&str]) -> Result<Option<String>, AllocError> {
+pub fn date(
+    alloc: Global,
+    files: &[LocaleFile],
+    args: &[&str],
+) -> Result<Option<String>, AllocError> {
     let [tag, element, suffix, text] = args else {
         return Ok(None);
     };
@@ -126,9 +139,10 @@ pub fn date(alloc: Global, args: &[&str]) -> Result<Option<String>, AllocError> 
         return Ok(None);
     };
     let reading = Date::of_text(alloc, *text)?;
-    let files = files(alloc)?;
-    let text = written_date(alloc, *tag, &files, &element, &reading.date, *suffix)?;
-    Ok(Some(text))
+    let written = written_date(alloc, *tag, files, &element, &reading.date, *suffix);
+    drop(reading);
+    drop(element);
+    Ok(Some(written?))
 }
 
 /// A date as its element has it, in plain text.
@@ -140,19 +154,31 @@ fn written_date<'s>(
     date: &Date,
     suffix: &str,
 ) -> Result<String, AllocError> {
+    let year_suffix = if suffix.is_empty() {
+        None
+    } else {
+        Some(suffix)
+    };
     let options = DateOptions {
         mark: None,
-        year_suffix: if suffix.is_empty() {
-            None
-        } else {
-            Some(suffix)
-        },
+        year_suffix,
     };
     let locales = LocaleChain::new(alloc, tag, &[], files)?;
-    let mut output = Output::new(alloc, locales.language());
-    push_date(&mut output, &locales, element, date, options)?;
-    let pieces = output.finish()?;
+    let pieces = pieces_of_date(alloc, &locales, element, date, options)?;
     plain_text(alloc, &pieces, locales.quote_marks())
+}
+
+/// What is written of a date.
+fn pieces_of_date<'s>(
+    alloc: Global,
+    locales: &LocaleChain<'s>,
+    element: &'s date::Date,
+    date: &Date,
+    options: DateOptions<'_>,
+) -> Result<Pieces, AllocError> {
+    let mut output = Output::new(alloc, locales.language());
+    push_date(&mut output, locales, element, date, options)?;
+    output.finish()
 }
 
 /// DATE: the text by which it is sorted.

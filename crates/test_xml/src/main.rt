@@ -19,6 +19,7 @@ use std::rt::Env;
 use std::{env, io};
 use xml_reader::error::XmlError;
 use xml_reader::reader::read_bytes;
+use xml_reader::tree::Element;
 
 /// What is done with the documents.
 #[derive(Clone, Copy, PartialEq, Eq)]
@@ -38,32 +39,47 @@ fn next_document(bytes: &[u8]) -> Option<(&[u8], &[u8])>
     behind.split_first()?.1.split_at_checked(length)
 }
 
-/// What is printed of a document.
-fn line_of(
-    rt: &(impl Eprint + AllocGlobal),
-    task: Task,
-    document: &[u8],
-) -> Result<String, AllocError> {
-    let alloc = rt.alloc();
-    if task == Task::ShowCalls {
-        let _ = eprintln!(rt; "read");
-    }
-    let outcome = read_bytes(alloc, document);
-    if task == Task::ShowCalls {
-        let _ = eprintln!(rt; "show");
-    }
+/// The digest of a tree.
+fn digest_of(alloc: Global, root: &Element) -> Result<String, AllocError> {
+    let mut dump = String::new(alloc);
+    push_element(root, &mut dump, &mut Vec::new(alloc))?;
+    let digest = u128::from_be_bytes(Md5::digest(dump.as_bytes()));
+    drop(dump);
+    format!(in alloc; "{digest:032x}")
+}
+
+/// What is printed of a tree or a fault.
+fn line_of(alloc: Global, outcome: Result<Element, XmlError>) -> Result<String, AllocError> {
     match outcome {
         Ok(root) => {
-            let mut dump = String::new(alloc);
-            push_element(&root, &mut dump, &mut Vec::new(alloc))?;
-            let digest = u128::from_be_bytes(Md5::digest(dump.as_bytes()));
-            format!(in alloc; "{digest:032x}")
+            let line = digest_of(alloc, &root);
+            drop(root);
+            line
         }
         Err(XmlError::Malformed(fault, place)) => {
             format!(in alloc; "{} {} {fault}", place.line, place.column)
         }
         Err(XmlError::OutOfMemory) => Err(AllocError),
     }
+}
+
+/// Names a call before it is made, where that is the task.
+fn named(rt: &impl Eprint, task: Task, call: &str) {
+    if task == Task::ShowCalls {
+        let _ = eprintln!(rt; "{call}");
+    }
+}
+
+/// Reads a document, and gives what is printed of it.
+fn read_and_show(
+    rt: &(impl Eprint + AllocGlobal),
+    task: Task,
+    document: &[u8],
+) -> Result<String, AllocError> {
+    named(rt, task, "read");
+    let outcome = read_bytes(rt.alloc(), document);
+    named(rt, task, "show");
+    line_of(rt.alloc(), outcome)
 }
 
 /// Does the task with each document.
@@ -79,7 +95,7 @@ fn answer(
         if task == Task::Count {
             trees = trees.wrapping_add(u64::from(read_bytes(rt.alloc(), document).is_ok()));
         } else {
-            writeln!(out, "{}", line_of(rt, task, document)?)?;
+            writeln!(out, "{}", read_and_show(rt, task, document)?)?;
         }
         rest = behind;
     }

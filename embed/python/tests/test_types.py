@@ -10,21 +10,25 @@ from test_documented_code import block
 pytest.importorskip('mypy', reason='there is no mypy')
 
 USER = '''
+from pathlib import Path
 from typing import Any, Dict, List, Optional
 import gamhilon
 
 def cited(path: str) -> List[str]:
-    rendered = gamhilon.csl.render('notes', gamhilon.references.load(path).items,
-                                   [[gamhilon.csl.Cite('doe', '4')], [{'id': 'roe'}]], locale='de')
+    rendered = gamhilon.csl.render('notes', gamhilon.references.load(path),
+                                   [[gamhilon.csl.Cite('doe', '4')], [{'id': 'roe'}],
+                                    gamhilon.parse_citations('@doe, p. 4')], locale='de')
+    shown: str = rendered.citations[0].to_html(links=True) + rendered.bibliography.to_html()
+    page: str = gamhilon.markdown_pages.cite_page('@doe', Path('apa.csl'), Path(path)).text
     warnings: List[gamhilon.csl.Warned] = rendered.warnings
     place: Optional[int] = warnings[0].citation if warnings else None
-    return [*rendered.citations, *rendered.bibliography.values(), str(place)]
+    return [*rendered.citations, *rendered.bibliography.values(), str(place), shown, page]
 
 def pages(path: str) -> List[str]:
     document: Dict[str, Any] = {'styles': {}, 'requests': [], 'bibliography': {'style': 's'}}
     document['entries'] = gamhilon.csl_json.entries(gamhilon.csl_json.load(path)).entries
     try:
-        answer = gamhilon.render(document)
+        answer = gamhilon.render_document(document)
     except gamhilon.MacroRing as ring:
         place: Optional[int] = ring.request
         raise SystemExit(f'{place}, {ring.macro_index + 1}')
@@ -39,19 +43,27 @@ def pages(path: str) -> List[str]:
     if isinstance(told, gamhilon.Missing):
         for task in told.tasks:
             suffix: str = task.year_suffix
-        answer = gamhilon.render_with(
-            document, lambda task: gamhilon.Written([{'text': task.entry}],
+        answer = gamhilon.render_document(
+            document, write=lambda task: gamhilon.Written([{'text': task.entry}],
                                                     first_name=task.name_forms))
     items = answer.bibliography.items if answer.bibliography else []
     return [it.key + gamhilon.to_html(it.content) for it in items] + [str(gamhilon.version())]
 '''
 WRONG = '''
 import gamhilon
-gamhilon.render(3)
-gamhilon.render({}).citations[0].note_number + 1
-gamhilon.render({}, gamhilon.Limits(1, 1))
+gamhilon.render_document(3)
+gamhilon.render_document({}).citations[0].note_number + 1
+gamhilon.render_document({}, gamhilon.Limits(1, 1))
 gamhilon.csl.render('notes', [], [[3]])
 '''
+
+
+@pytest.fixture(scope='module')
+def folder(tmp_path_factory):
+    """A folder in which the package stands, and what mypy keeps for its next call."""
+    made = tmp_path_factory.mktemp('types')
+    (made / 'gamhilon').symlink_to(f'{SOURCE}/gamhilon')
+    return made
 
 
 def mypy(folder, *words):
@@ -64,8 +76,8 @@ def mypy(folder, *words):
     return done.stdout
 
 
-def test_the_package_passes(tmp_path):
-    told = mypy(tmp_path, '--config-file', f'{PROJECT}/pyproject.toml', f'{SOURCE}/gamhilon')
+def test_the_package_passes(folder):
+    told = mypy(folder, '--config-file', f'{PROJECT}/pyproject.toml', f'{SOURCE}/gamhilon')
     assert told.startswith('Success'), told
 
 
@@ -76,19 +88,17 @@ DOCUMENTED = [
 
 
 @pytest.mark.parametrize('name, words, before', DOCUMENTED)
-def test_the_lines_of_the_documentation_pass(tmp_path, name, words, before):
-    (tmp_path / 'documented.py').write_text(before + block(name, words))
-    (tmp_path / 'gamhilon').symlink_to(f'{SOURCE}/gamhilon')
-    told = mypy(tmp_path, 'documented.py')
+def test_the_lines_of_the_documentation_pass(folder, name, words, before):
+    (folder / 'documented.py').write_text(before + block(name, words))
+    told = mypy(folder, 'documented.py')
     assert told.startswith('Success'), told
 
 
-def test_callers_see_the_types(tmp_path):
+def test_callers_see_the_types(folder):
     for name, text in (('user.py', USER), ('wrong.py', WRONG)):
-        (tmp_path / name).write_text(text)
-    (tmp_path / 'gamhilon').symlink_to(f'{SOURCE}/gamhilon')
+        (folder / name).write_text(text)
     assert os.path.exists(f'{SOURCE}/gamhilon/py.typed')
-    assert mypy(tmp_path, 'user.py').startswith('Success')
-    told = mypy(tmp_path, 'wrong.py')
+    assert mypy(folder, 'user.py').startswith('Success')
+    told = mypy(folder, 'wrong.py')
     assert told.count('wrong.py:3: error') == 1
     assert all(f'wrong.py:{line}: error' in told for line in (4, 5, 6))
