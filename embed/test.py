@@ -5,10 +5,10 @@ tests/documents/ and examples/; then it runs the tests of the Python package.
 
 It needs the toolchain and a C compiler. What else it would use (c++, cargo, cmake, pkg-config,
 valgrind, pip, venv, pandoc, chromium, pytest, mypy, python3-pandocfilters, python3-jsonschema,
-python3-pybtex, python3-yaml, python3-distributed, citation-style-language-styles and
-citation-style-language-locales) is left out where it is missing, and a line says so. --many N has
-valgrind watch N calls in four threads, where it is 300 else. The last line is 'N passed, M failed',
-and the exit status is 1 where a test failed."""
+python3-pybtex, python3-yaml, python3-distributed, python3-markdown, mkdocs,
+citation-style-language-styles and citation-style-language-locales) is left out where it is missing,
+and a line says so. --many N has valgrind watch N calls in four threads, where it is 300 else. The
+last line is 'N passed, M failed', and the exit status is 1 where a test failed."""
 import collections
 import glob
 import json
@@ -262,7 +262,7 @@ def members(part):
 
 def is_rebuilt(gamhilon, case, value):
     """Whether `render` gives all that the JSON has, and `plain` the text of each tree."""
-    answer = gamhilon.render(case.bytes)
+    answer = gamhilon.render_document(case.bytes)
     found = {'citations': [members(citation) for citation in answer.citations]}
     if answer.bibliography:
         found['bibliography'] = {**members(answer.bibliography),
@@ -468,7 +468,7 @@ def try_from_python(cases, jsons):
     ring = {'styles': {'s': {'citation': {'elements': []}, 'macros': macros}}, 'entries': [],
             'requests': [], 'bibliography': {'style': 's'}}
     try:
-        gamhilon.render(ring)
+        gamhilon.render_document(ring)
         hold(False, 'a ring is refused')
     except gamhilon.MacroRing as refusal:
         hold((refusal.status, refusal.request, refusal.macro_index) == (3, None, 1),
@@ -476,7 +476,7 @@ def try_from_python(cases, jsons):
     ring['styles']['t'] = {'citation': {'elements': []}}
     ring['requests'] = [{'style': 't', 'items': []}, {'style': 's', 'items': []}]
     try:
-        gamhilon.render(ring)
+        gamhilon.render_document(ring)
         hold(False, 'a ring is refused')
     except gamhilon.MacroRing as refusal:
         hold((refusal.request, refusal.macro_index) == (1, 1), 'the place of a ring of a request')
@@ -499,7 +499,8 @@ def python_with_pytest():
         return os.path.exists(python) and ran(python, '-c', f'import {module}').returncode == 0
 
     pythons = [python for python in (sys.executable, '/usr/bin/python3') if has(python, 'pytest')]
-    names = ('mypy', 'pandocfilters', 'jsonschema', 'pybtex', 'yaml', 'distributed')
+    names = ('mypy', 'pandocfilters', 'jsonschema', 'pybtex', 'yaml', 'distributed', 'markdown',
+             'mkdocs')
     return max(pythons, key=lambda python: sum(has(python, name) for name in names), default=None)
 
 

@@ -54,7 +54,8 @@ def metadata():
     """The metadata of the package, and its readme (Metadata 2.1)."""
     said = project()
     fields = [('Metadata-Version', '2.1'), ('Name', said['name']), ('Version', version()),
-              ('Summary', said['description']), ('Keywords', ','.join(said['keywords'])),
+              ('Summary', said['description']), *(('Author', it['name']) for it in said['authors']),
+              ('Keywords', ','.join(said['keywords'])),
               ('License', said['license']['text']), ('Requires-Python', said['requires-python']),
               *(('License-File', name) for name in LICENSES),
               *(('Classifier', classifier) for classifier in said['classifiers']),
@@ -65,9 +66,12 @@ def metadata():
 
 
 def entry_points():
-    """The commands of the package."""
-    lines = [f'{name} = {function}\n' for name, function in project()['scripts'].items()]
-    return ('[console_scripts]\n' + ''.join(lines)).encode()
+    """The commands of the package, and where other programs find its extensions."""
+    said = project()
+    groups = {'console_scripts': said['scripts'], **said['entry-points']}
+    texts = ['\n'.join([f'[{group}]', *(f'{name} = {place}' for name, place in points.items()), ''])
+             for group, points in groups.items()]
+    return '\n'.join(texts).encode()
 
 
 def glibc_of(library):

@@ -23,7 +23,7 @@ LIMITS = gamhilon.Limits(depth=100, elements=100000)
 def page(document):
     """The page of a document, or why there is none. (This runs on a worker.)"""
     try:
-        answer = gamhilon.render(document, limits=LIMITS)
+        answer = gamhilon.render_document(document, limits=LIMITS)
     except gamhilon.Refused as refusal:
         return None, str(refusal)
     citations = [f'<p class="citation">{gamhilon.to_html(citation)}</p>\n'

@@ -22,14 +22,14 @@ NESTED = {**EMPTY,
                                                      {'kind': 'text', 'macro': 'm'}]},
                            'macros': [{'name': 'm',
                                        'children': [{'kind': 'text', 'value': 'x'}]}]}}}
-CALLS = (gamhilon.render, gamhilon.print_json, gamhilon.print_document, gamhilon.check)
+CALLS = (gamhilon.render_document, gamhilon.print_json, gamhilon.print_document, gamhilon.check)
 
 
 def test_an_answer_of_five_times_its_document_is_computed_once(made_up):
     document = json.dumps(EMPTY) + ' ' * 100000
     answer = json.dumps({'citations': [{'content': [{'text': 'x' * 5 * len(document)}]}]}).encode()
     library = made_up(text=answer)
-    assert len(gamhilon.render(document).citations) == 1
+    assert len(gamhilon.render_document(document).citations) == 1
     assert len(library.calls) == 1
 
 
@@ -110,10 +110,10 @@ def test_limits_of_a_document(built):
 def test_a_status_of_a_later_library_is_told(made_up):
     made_up(status=17)
     with pytest.raises(RuntimeError, match='17'):
-        gamhilon.render(EMPTY)
+        gamhilon.render_document(EMPTY)
     made_up(limits_status=17)
     with pytest.raises(RuntimeError, match='17'):
-        gamhilon.render(EMPTY, limits=gamhilon.Limits(1, 1))
+        gamhilon.render_document(EMPTY, limits=gamhilon.Limits(1, 1))
 
 
 @pytest.mark.parametrize('document, pointer, found, wanted, message', [
@@ -137,7 +137,7 @@ def test_a_status_of_a_later_library_is_told(made_up):
     (b'"\xff"', '', 'no UTF-8 from byte 1', 'UTF-8', 'no UTF-8 from byte 1'),
 ])
 def test_a_fault_has_its_place(built, document, pointer, found, wanted, message):
-    for call in (gamhilon.render, gamhilon.print_document, gamhilon.check):
+    for call in (gamhilon.render_document, gamhilon.print_document, gamhilon.check):
         with pytest.raises(gamhilon.DocumentRefused) as refusal:
             call(document)
         said = refusal.value
@@ -148,7 +148,7 @@ def test_a_fault_has_its_place(built, document, pointer, found, wanted, message)
 def test_a_fault_that_finds_no_memory_is_out_of_memory(made_up):
     made_up(status=2, fault_status=5)
     with pytest.raises(gamhilon.OutOfMemory):
-        gamhilon.render(EMPTY)
+        gamhilon.render_document(EMPTY)
 
 
 @pytest.mark.parametrize('error', [
@@ -164,7 +164,7 @@ def test_errors_are_pickled_whole(error):
 
 def test_a_document_that_is_a_value_is_its_json(made_up):
     library = made_up(text=b'{"citations":[]}')
-    gamhilon.render({'a': 'é'})
+    gamhilon.render_document({'a': 'é'})
     assert json.loads(library.calls[0][0]) == {'a': 'é'}
 
 
@@ -172,7 +172,7 @@ def test_half_of_a_surrogate_pair_is_refused_in_a_text_and_in_a_value(built):
     value = {**EMPTY, 'entries': [{'key': 'a\ud800'}]}
     for document in (value, json.dumps(value), json.dumps(value, ensure_ascii=False)):
         with pytest.raises(gamhilon.DocumentRefused):
-            gamhilon.render(document)
+            gamhilon.render_document(document)
 
 
 def test_a_value_that_nests_too_deep_is_refused(built):
@@ -180,13 +180,14 @@ def test_a_value_that_nests_too_deep_is_refused(built):
     for _ in range(100000):
         value = [value]
     with pytest.raises(gamhilon.DocumentRefused, match='127') as refusal:
-        gamhilon.render({'styles': value})
+        gamhilon.render_document({'styles': value})
     assert refusal.value.pointer == '' and refusal.value.wanted == 'at most 127 levels'
 
 
 def test_a_ring_comes_out_of_a_process_pool(built):
     with ProcessPoolExecutor(2) as pool:
-        waiting = [pool.submit(gamhilon.render, document) for document in (RING, EMPTY, b'{')]
+        waiting = [pool.submit(gamhilon.render_document, document)
+                   for document in (RING, EMPTY, b'{')]
         with pytest.raises(gamhilon.MacroRing) as refusal:
             waiting[0].result(timeout=60)
         assert (refusal.value.request, refusal.value.macro_index) == (None, 1)
@@ -196,7 +197,7 @@ def test_a_ring_comes_out_of_a_process_pool(built):
 
 
 def test_an_answer_is_pickled_whole(built, example):
-    answer = gamhilon.render(example('first.json'))
+    answer = gamhilon.render_document(example('first.json'))
     assert pickle.loads(pickle.dumps(answer)) == answer
 
 
@@ -205,7 +206,7 @@ def test_macros_that_nest_deeply_are_rendered(made_up):
     tree = ('{"children":[' * depth
             + '{"font_style":"normal","font_weight":"normal","text":"a\\"]"}' + ']}' * depth)
     made_up(text=f'{{"citations":[{{"content":[{tree}]}}]}}'.encode())
-    content = gamhilon.render(EMPTY).citations[0].content
+    content = gamhilon.render_document(EMPTY).citations[0].content
     assert gamhilon.plain(content) == 'a"]'
     assert gamhilon.to_html(content) == 'a&quot;]' and gamhilon.to_latex(content) == r'a"{}{]}'
     assert gamhilon.to_markdown(content) == r'a\"\]'
@@ -213,7 +214,8 @@ def test_macros_that_nest_deeply_are_rendered(made_up):
 
 def test_a_missing_library_is_told_at_the_first_call():
     words = ('import gamhilon\nprint(len(gamhilon.styles.names()))\n'
-             'try: gamhilon.render({})\nexcept gamhilon.LibraryMissing as error: print(error)')
+             'try: gamhilon.render_document({})\n'
+             'except gamhilon.LibraryMissing as error: print(error)')
     environment = {**os.environ, 'PYTHONPATH': SOURCE,
                    'GAMHILON_LIBRARY': '/nowhere/libgamhilon.so'}
     done = subprocess.run([sys.executable, '-c', words], env=environment, capture_output=True,

@@ -646,7 +646,7 @@ def test_ids_may_be_numbers(render):
     assert render(TITLE, [entry(7)], [{'id': 7}], ['7']).citations == ['(Title 7)', '(Title 7)']
 
 
-@pytest.mark.parametrize('entries', ['x', {'id': 'one'}, 3])
+@pytest.mark.parametrize('entries', [{'id': 'one'}, 3])
 def test_entries_that_are_no_list_are_refused(entries):
     with pytest.raises(csl.EntriesRefused, match='no list of items'):
         csl.render('author-date', entries, [])

@@ -38,13 +38,13 @@ def test_the_loop_of_the_driven_document(driver):
         return gamhilon.Written([{'text': texts[len(seen) - 1], 'font_style': 'normal',
                                   'font_weight': 'normal'}])
 
-    answer = gamhilon.render_with(document, write)
+    answer = gamhilon.render_document(document, write=write)
     assert seen == asked
     assert [gamhilon.plain(citation.content) for citation in answer.citations] == ['(Doe 1999, 4)']
 
 
 def test_the_host_of_thirty_lines(driver):
-    code = block('docs/DRIVEN.md', 'gamhilon.render_with(document, write)')
+    code = block('docs/DRIVEN.md', 'gamhilon.render_document(document, write=write)')
     assert len(code.strip().splitlines()) <= 30
     assert printed(code) == '(Doe 1999a, b, 4; Roe 2003)\n(John Doe 1999)\n'
 

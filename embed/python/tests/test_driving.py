@@ -62,7 +62,7 @@ def test_ambiguous_cites_get_suffixes_and_given_names_and_collapse(driver):
                       {'entry': 'one', 'locator': ['page', '4']}], [{'entry': 'three'}],
                      rounds='full')
     asked['bibliography']['order'] = ['one', 'two', 'four', 'three']
-    answer = gamhilon.render_with(asked, write)
+    answer = gamhilon.render_document(asked, write=write)
     assert texts(answer) == ['(Doe 1999a, b, 4; Roe 1999)', '(John Doe 1999)']
     assert [(item.key, gamhilon.plain(item.content)) for item in answer.bibliography.items] == [
         ('one', 'Jane Doe 1999b'), ('two', '——— 1999a'), ('four', 'Roe 1999'),
@@ -82,7 +82,7 @@ def test_where_rounds_is_csl_names_and_suffixes_are_told_together(driver):
                       {'entry': 'one', 'locator': ['page', '4']}], [{'entry': 'three'}],
                      rounds='csl')
     asked['bibliography']['order'] = ['one', 'two', 'four', 'three']
-    answer = gamhilon.render_with(asked, noting)
+    answer = gamhilon.render_document(asked, write=noting)
     assert texts(answer) == ['(Jane Doe 1999b, 1999a, 4; Roe 1999)', '(John Doe 1999)']
     assert [(item.key, gamhilon.plain(item.content)) for item in answer.bibliography.items] == [
         ('one', 'Jane Doe 1999a'), ('two', '——— 1999b'), ('four', 'Roe 1999'),
@@ -97,8 +97,8 @@ def test_each_task_is_written_once(driver):
         seen.append(task)
         return write(task)
 
-    gamhilon.render_with(document([{'entry': 'one'}, {'entry': 'two'}],
-                                  [{'entry': 'one'}, {'entry': 'one'}]), noting)
+    gamhilon.render_document(document([{'entry': 'one'}, {'entry': 'two'}],
+                                  [{'entry': 'one'}, {'entry': 'one'}]), write=noting)
     assert len(set(seen)) == len(seen)
     # Both cites of One that repeat it read alike when they are compared, and are one task.
     assert sum(task.entry == 'one' and task.state is None and not task.is_final
@@ -125,7 +125,8 @@ def handed_in(driver, monkeypatch):
 def test_a_document_is_handed_in_three_times_more_than_rounds_mark(handed_in, cited, rounds):
     """Two works of Jane are told by suffixes, in one round; Jane and John by given names, in one
     round before that. Without cites there is nothing to write."""
-    gamhilon.render_with(document(*[[{'entry': key}] for key in cited], rounds='full'), write)
+    gamhilon.render_document(document(*[[{'entry': key}] for key in cited], rounds='full'),
+                             write=write)
     assert len(handed_in) == (rounds + 3 if cited else 1)
     assert handed_in[0]['written'] == []
     for before, after in zip(handed_in, handed_in[1:]):
@@ -155,7 +156,7 @@ def test_what_is_missing_at_first_are_the_first_renderings(driver):
 def test_a_cite_of_the_year_is_a_date_at_last(driver):
     asked = document([{'entry': 'one', 'purpose': 'year'}])
     seen = []
-    answer = gamhilon.render_with(asked, lambda task: seen.append(task) or write(task))
+    answer = gamhilon.render_document(asked, write=lambda task: seen.append(task) or write(task))
     assert texts(answer) == ['1999']
     assert [(task.kind, task.purpose, task.place) for task in seen] == [
         ('cite', 'year', None), ('item', None, None), ('date', None, (0, 0))]
@@ -164,14 +165,14 @@ def test_a_cite_of_the_year_is_a_date_at_last(driver):
 def test_what_is_written_already_is_not_asked_for(driver):
     asked = document([{'entry': 'four'}])
     seen = []
-    answer = gamhilon.render_with(asked, lambda task: seen.append(task) or write(task))
+    answer = gamhilon.render_document(asked, write=lambda task: seen.append(task) or write(task))
     written = [write(task).data(task) for task in seen]
     assert len(written) == 3 and gamhilon.drive_once({**asked, 'written': written}) == answer
 
     def refuse(task):
         raise AssertionError(f'{task} is written')
 
-    assert gamhilon.render_with({**asked, 'written': written}, refuse) == answer
+    assert gamhilon.render_document({**asked, 'written': written}, write=refuse) == answer
 
 
 def test_notes_and_positions(driver):
@@ -181,8 +182,8 @@ def test_notes_and_positions(driver):
              'requests': requests, 'entries': [{'key': 'one'}, {'key': 'four'}],
              'bibliography': {'style': 'n'}}
     final = []
-    answer = gamhilon.render_with(asked,
-                                  lambda task: (final.append(task) if task.is_final else None)
+    answer = gamhilon.render_document(asked,
+                                  write=lambda task: (final.append(task) if task.is_final else None)
                                   or write(task))
     assert [(task.position, task.note, task.first_note, task.near_note) for task in final] == [
         ('first', 1, 1, False), ('ibid', 2, 1, True), ('first', 3, 3, False),
@@ -275,11 +276,11 @@ def test_a_driver_that_asks_again_ends_the_loop(made_up_driver):
     task = json.dumps({'kind': 'date', 'style': 's', 'locale': 'en-US', 'entry': 'e'})
     functions = made_up_driver(text=f'{{"missing":[{task}]}}'.encode())
     with pytest.raises(RuntimeError, match='asked again'):
-        gamhilon.render_with({}, write)
+        gamhilon.render_document({}, write=write)
     assert len(functions.calls) == 2
     made_up_driver(text=b'{"missing":[]}')
     with pytest.raises(RuntimeError, match='asked again'):
-        gamhilon.render_with({}, write)
+        gamhilon.render_document({}, write=write)
 
 
 def test_a_library_without_the_call_is_told(made_up):
@@ -374,7 +375,7 @@ def test_the_schema_takes_what_a_host_hands_in(schema, handed_in):
     asked['styles']['n'] = {'class': 'note'}
     asked['requests'] += [{'style': 'n', 'note': note, 'items': [{'entry': 'one'}]}
                           for note in (1, 2)]
-    gamhilon.render_with(asked, write)
+    gamhilon.render_document(asked, write=write)
     assert len(handed_in) > 3 and all(map(schema, handed_in))
 
 
@@ -406,6 +407,7 @@ def test_what_is_written_and_not_asked_for_is_no_fault(driver):
     """docs/DRIVEN.md: a host may hand in more than is asked for, and the same thing twice."""
     more = with_written()['written']
     seen = []
-    answer = gamhilon.render_with(document([{'entry': 'four'}], written=more * 2),
-                                  lambda task: seen.append(task) or write(task))
-    assert answer == gamhilon.render_with(document([{'entry': 'four'}]), write) and len(seen) == 3
+    answer = gamhilon.render_document(document([{'entry': 'four'}], written=more * 2),
+                                  write=lambda task: seen.append(task) or write(task))
+    assert answer == gamhilon.render_document(document([{'entry': 'four'}]), write=write)
+    assert len(seen) == 3

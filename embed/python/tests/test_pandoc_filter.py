@@ -221,7 +221,7 @@ def test_texts_that_nest_deeply(pandoc):
 
 
 @pytest.mark.parametrize('suffix, locator, rest', [
-    (', p. 4', ('page', '4'), ''), (', pp.\u00a033--35, x', ('page', '33–35'), ', x'),
+    (', p. 4', ('page', '4'), ''), (', pp.\u00a033--35, and', ('page', '33–35'), ', and'),
     (', § 3', ('section', '3'), ''),
     (', ¶¶ 3-4', ('paragraph', '3–4'), ''), (', col. 3', ('column', '3'), ''),
     (', no. 3', ('issue', '3'), ''), (', s.v. 3', ('sub-verbo', '3'), ''),

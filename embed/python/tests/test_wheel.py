@@ -62,6 +62,8 @@ def test_it_has_what_a_user_needs(wheel):
                 assert archive.read(f'{info}/{name}') == file.read()
         entry_points = archive.read(f'{info}/entry_points.txt').decode()
         assert 'gamhilon-pandoc = gamhilon.pandoc_filter:main' in entry_points
+        assert '[mkdocs.plugins]\ngamhilon = gamhilon.mkdocs_plugin:CitationPlugin\n' in entry_points
+        assert '[markdown.extensions]\ngamhilon = gamhilon.python_markdown:' in entry_points
         for line in archive.read(f'{info}/RECORD').decode().splitlines():
             name, checksum, size = line.rsplit(',', 2)
             if checksum:
@@ -78,6 +80,7 @@ def test_it_says_what_pyproject_says(wheel):
         for name in said.get_all('License-File'):
             assert f'{info}/{name}' in archive.namelist()
     assert said['Name'] == 'gamhilon' and said['Version'] == gamhilon_wheel.version()
+    assert said['Author'] == 'Gamhilon maintainers'
     assert said['Requires-Python'] == '>=3.8' and said['License'] == 'MIT OR Apache-2.0'
     assert 'License :: OSI Approved :: MIT License' in said.get_all('Classifier')
     assert said.get_all('Project-URL')[1] == 'The original, https://github.com/typst/hayagriva'

@@ -1,60 +1,57 @@
 """Gamhilon for Python: citations and bibliographies, with formatting, links and keys.
 
-    import gamhilon
+    from gamhilon import csl
 
-    rendered = gamhilon.csl.render('author-date', entries, [[{'id': 'doe99', 'locator': '4'}]])
-    for citation in rendered.answer.citations:
-        print(gamhilon.to_html(citation.content))
+    rendered = csl.render('apa', 'library.bib', [[{'id': 'doe99', 'locator': '4'}]])
+    print(*rendered.citations, rendered.bibliography, sep='\n')
+    page = rendered.to_html(links=True)
 
-`csl` renders in published styles, and in the four of `styles`, which come with the package;
-`references` reads the files of reference managers as CSL-JSON. A document of the driver's own form,
-whose entries `csl_json` makes of CSL-JSON, is answered by
+What is there:
 
-    answer = gamhilon.render(document)          # a dict as docs/DOCUMENT.md tells it
-    for citation in answer.citations:
-        print(gamhilon.to_html(citation.content))
+- `csl.render` writes citations and a bibliography in a style: a published one, one of the package
+  (`styles`), or one of a file. `cite` is the same from texts alone.
+- `parse_citations` and `find_citations` read citations in pandoc's notation, `[see @doe99, p. 3]`;
+  `markdown_pages` writes those of whole pages of Markdown.
+- `references.load` reads the files of reference managers: CSL-JSON, BibLaTeX, BibTeX, hayagriva.
+- `render_document` answers a document of the driver's own form (docs/DOCUMENT.md), whose entries
+  `csl_json` makes of CSL-JSON; given `write`, a host writes each cite itself (docs/DRIVEN.md).
+- `to_html`, `to_markdown` and `to_latex` write trees of an answer, `style_sheet` lays out lists.
 
-A document from others is answered within limits: `gamhilon.render(document,
-limits=gamhilon.Limits(100, 100000))`.
-
-Citations are written by a published style from its text:
-
-    answer = gamhilon.cite(style, items, citations)
-
-A host that writes cites itself, such as a CSL processor, has the driver tell it what to write:
-`gamhilon.render_with(document, write)`, as docs/DRIVEN.md tells it.
-
-`python -m gamhilon` does the same from the command line. Calls may be made from any number of
-threads and processes at once.
+All that the package raises by itself is a `GamhilonError`. `python -m gamhilon` does the same from
+the command line. Calls may be made from any number of threads and processes at once.
 """
 from __future__ import annotations
 
 import json
-from typing import Any, Dict, Optional, Sequence, Union
+from typing import Any, Dict, List, Optional, Sequence, Union
 
-from . import csl, csl_json, references, styles
+from . import csl, csl_json, markdown_pages, references, styles
 from ._citing import Json, cite_texts, texts_of
+from ._deprecated import deprecated
 from ._driving import Missing, State, Task, Writer, Written, drive_bytes, render_with_all
 from ._library import library
 from ._limits import Limits
 from ._version import Version, __version__, version
 from .answer import Answer, Bibliography, Citation, Item, Node, Tree, answer_of, plain
-from .errors import (DocumentRefused, LibraryMissing, LimitExceeded, MacroRing, NumberOverflow,
-                     OutOfMemory, Refused, TextRefused,
-                     TooDeep, TooManyElements, Unsettled)
+from .citation_text import (CitationTextRefused, TextCitation, find_citations,
+                            parse_citations)
+from .errors import (DocumentRefused, GamhilonError, LibraryMissing, LimitExceeded, MacroRing,
+                     NumberOverflow, OutOfMemory, Refused, TextRefused, TooDeep, TooManyElements,
+                     Unsettled)
 from .html_writer import bibliography_to_html, style_sheet, to_html
 from .latex_writer import bibliography_to_latex, to_latex
 from .markdown_writer import bibliography_to_markdown, to_markdown
 from .texts import TextFault, TextWarning
 
 __all__ = [
-    'Answer', 'Bibliography', 'Citation', 'Document', 'DocumentRefused', 'Item', 'LibraryMissing',
-    'LimitExceeded', 'Limits', 'MacroRing', 'Missing', 'Node', 'NumberOverflow', 'OutOfMemory',
-    'Refused', 'State', 'Task', 'TextFault', 'TextRefused', 'TextWarning', 'TooDeep',
-    'TooManyElements', 'Tree', 'Unsettled', 'Version', 'Writer',
-    'Written', '__version__', 'bibliography_to_html', 'bibliography_to_latex',
-    'bibliography_to_markdown', 'check', 'cite', 'csl', 'csl_json', 'drive_once', 'plain',
-    'print_document', 'print_json', 'references', 'render', 'render_with', 'style_sheet', 'styles',
+    'Answer', 'Bibliography', 'Citation', 'CitationTextRefused', 'Document', 'DocumentRefused',
+    'GamhilonError', 'Item', 'LibraryMissing', 'LimitExceeded', 'Limits', 'MacroRing', 'Missing',
+    'Node', 'NumberOverflow', 'OutOfMemory', 'Refused', 'State', 'Task', 'TextCitation',
+    'TextFault', 'TextRefused', 'TextWarning', 'TooDeep', 'TooManyElements', 'Tree', 'Unsettled',
+    'Version', 'Writer', 'Written', '__version__', 'bibliography_to_html', 'bibliography_to_latex',
+    'bibliography_to_markdown', 'check', 'cite', 'csl', 'csl_json', 'drive_once',
+    'find_citations', 'markdown_pages', 'parse_citations', 'plain', 'print_document', 'print_json',
+    'references', 'render', 'render_document', 'render_with', 'style_sheet', 'styles',
     'to_html', 'to_latex', 'to_markdown', 'version',
 ]
 
@@ -90,24 +87,47 @@ def _within(document: Document, limits: Optional[Limits]) -> bytes:
 def print_document(document: Document, *, limits: Optional[Limits] = None) -> str:
     """The text that the document prints: each citation on a line, and then, where there is a
     bibliography, an empty line and a line for each item, with its key, a tab and its text. Raises
-    as `render` does."""
+    as `render_document` does."""
     return library().print_document(_within(document, limits)).decode()
 
 
 def print_json(document: Document, *, limits: Optional[Limits] = None) -> str:
-    """The answer to the document as JSON (docs/ANSWER.md). Raises as `render` does."""
+    """The answer to the document as JSON (docs/ANSWER.md). Raises as `render_document` does."""
     return library().print_json(_within(document, limits)).decode()
 
 
-def render(document: Document, *, limits: Optional[Limits] = None) -> Answer:
-    """The answer to the document.
+def render_document(document: Document, *, limits: Optional[Limits] = None,
+                    write: Optional[Writer] = None) -> Answer:
+    """The answer to a document of the driver's own form (docs/DOCUMENT.md).
+
+        >>> document = {'styles': {'s': {'citation': {'elements': []}}}, 'entries': [],
+        ...             'requests': [], 'bibliography': {'style': 's'}}
+        >>> render_document(document).citations
+        []
+
+    With `write` the document is a driven one (docs/DRIVEN.md), a value and no text, whose cites a
+    host writes itself: `write` is called once for each task that the driver asks for, and gives
+    what was written. What the document has in `written` isn't asked for. The document is handed in
+    again with what was written, in all at most three times more than rounds of disambiguation mark,
+    or five times where its `rounds` is `csl`.
 
     Raises DocumentRefused, MacroRing, NumberOverflow or OutOfMemory, each a Refused, where there is
-    none, and LibraryMissing where there is no library. Where there are limits, they are checked
-    before anything is rendered: a document that isn't within them raises TooDeep or
-    TooManyElements, each a LimitExceeded and so a Refused.
+    no answer, and LibraryMissing where there is no library; and what `write` raises. Where there
+    are limits, they are checked before anything is rendered: a document that isn't within them
+    raises TooDeep or TooManyElements, each a LimitExceeded and so a Refused.
     """
-    return answer_of(print_json(document, limits=limits))
+    if write is None:
+        return answer_of(print_json(document, limits=limits))
+    if not isinstance(document, dict) or limits is not None:
+        raise TypeError('a document that a host writes is a dict, without limits')
+    writer = write
+    return render_with_all(document, lambda tasks: [writer(task) for task in tasks])
+
+
+def render(document: Document, *, limits: Optional[Limits] = None) -> Answer:
+    """The older name of `render_document`."""
+    deprecated('gamhilon.render', 'gamhilon.render_document')
+    return render_document(document, limits=limits)
 
 
 def cite(style: Union[str, bytes], items: Json, citations: Json, *,
@@ -132,22 +152,21 @@ def cite(style: Union[str, bytes], items: Json, citations: Json, *,
 
 def drive_once(document: Document) -> Union[Answer, Missing]:
     """One turn of the loop: the answer to a driven document (docs/DRIVEN.md), or the tasks that the
-    host has to write before there is one. Raises as `render` does, but for MacroRing: there are no
-    macros."""
+    host has to write before there is one. Raises as `render_document` does, but for MacroRing:
+    there are no macros."""
     return drive_bytes(_bytes_of(document))
 
 
 def render_with(document: Dict[str, Any], write: Writer) -> Answer:
-    """The whole loop: the answer to a driven document, in which the host writes each cite. `write`
-    is called once for each task that the driver asks for, and gives what was written. What the
-    document has in `written` isn't asked for.
-
-    The document is handed in again with what was written, in all at most three times more than
-    rounds of disambiguation mark, or five times where its `rounds` is `csl`. Raises as `drive_once`
-    does, and what `write` raises."""
-    return render_with_all(document, lambda tasks: [write(task) for task in tasks])
+    """The older name of `render_document` with `write`."""
+    deprecated('gamhilon.render_with', 'gamhilon.render_document(.., write=..)')
+    return render_document(document, write=write)
 
 
 def check(document: Document, *, limits: Optional[Limits] = None) -> None:
-    """Raises what `render` would raise, and gives nothing where there is an answer."""
+    """Raises what `render_document` would raise, and gives nothing where there is an answer."""
     library().check(_within(document, limits))
+
+
+def __dir__() -> List[str]:
+    return sorted(__all__)

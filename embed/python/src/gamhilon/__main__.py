@@ -15,6 +15,7 @@ from ._cite_command import Asked, bibliography_command, cite_command
 from ._console import (INPUT_OR_OUTPUT_FAILED, NOT_OF_ITS_FORM, json_text, name_of, progress, read,
                        say, write)
 from ._limits import DEFAULT_DEPTH, DEFAULT_ELEMENTS, UNLIMITED
+from ._markdown_command import add_markdown, markdown_command
 from ._render_folder import Job, page_of, render_folder
 from ._style_commands import COMMANDS, add_style_commands, run_style_command
 from .errors import LibraryMissing, Refused
@@ -42,6 +43,7 @@ def parser() -> argparse.ArgumentParser:
                       help='the version, and what the library was built of')
     commands = made.add_subparsers(dest='command', metavar='COMMAND')
     _add_cite(commands)
+    add_markdown(commands)
     _add_render(commands)
     checked = commands.add_parser('check', help='what is wrong in styles, locales, documents and '
                                                 'references, or what they hold')
@@ -162,6 +164,8 @@ def _inputs(words: argparse.Namespace) -> int:
     """How many of the files of a command line are standard input."""
     if words.command in ('cite', 'bibliography'):
         return _asked(words).inputs()
+    if words.command == 'markdown':
+        return [*words.pages, *words.bibliography].count('-')
     return list(getattr(words, 'files', [])).count('-')
 
 
@@ -179,6 +183,8 @@ def run(words: argparse.Namespace) -> int:
         elif words.command in ('cite', 'bibliography'):
             command = cite_command if words.command == 'cite' else bibliography_command
             return command(_asked(words))
+        elif words.command == 'markdown':
+            return markdown_command(words)
         elif words.command == 'render':
             job = Job(words.to, words.standalone, Limits(words.depth, words.elements))
             return render_command(words.document, words.output, job, words.jobs)

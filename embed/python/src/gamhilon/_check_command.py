@@ -81,7 +81,7 @@ def _checked_references(path: str, data: bytes) -> Checked:
     count = len(told.items)
     warnings = [str(loss) for loss in told.losses]
     try:
-        warnings += map(str, csl.check_entries(told.items))
+        warnings += map(str, csl.check_references(told.items))
     except LibraryMissing:
         pass  # (what reads the forms tells what is said without it)
     return Checked(f'{count} reference{"" if count == 1 else "s"}', _remarks.of_references(told),

@@ -3,13 +3,15 @@ from __future__ import annotations
 
 import re
 from dataclasses import dataclass, field
-from typing import Any, List, Optional, Set, Tuple
+from typing import Any, List, Mapping, Optional, Set, Tuple
 
 from . import _locators, csl
-from ._locators import Locator
+from ._cited_style import PageCitation
+from ._locators import ENGLISH, Locator
 from ._pandoc_inlines import (CLOSING_QUOTES, SPACE, Inlines, inlines_of_pieces, joined,
                               leading_text, linked, strong, text_of, words)
-from ._pandoc_marks import Part, closing, opening, parts_of, text_of_pieces
+from ._pandoc_marks import (Part, closing, first_cite, opening, parts_of, text_of_pieces,
+                            without_empty)
 from ._pandoc_names import names_in
 from ._writing import Piece
 from .answer import Tree
@@ -29,7 +31,7 @@ class Cited:
 
 
 @dataclass
-class Citation:
+class Citation(PageCitation):
     """A citation of the text: its entries that are there, what is shown of those that aren't, and
     where it stands."""
 
@@ -40,6 +42,10 @@ class Citation:
     is_in_note: bool = False
     is_in_link: bool = False
     keeps_names: bool = False
+
+    @property
+    def keys(self) -> List[str]:
+        return [cited.key for cited in self.cited]
 
     @property
     def names_author(self) -> bool:
@@ -53,6 +59,10 @@ class Citation:
         return [self._cite(place, cited, keeps_authors)
                 for place, cited in enumerate(self.cited)]
 
+    def has_words(self, place: int) -> bool:
+        """Whether words of the page stand around a cite."""
+        return bool(self.cited[place].prefix or self.cited[place].suffix)
+
     def _cite(self, place: int, cited: Cited, keeps_authors: bool) -> csl.Cite:
         is_named = place == 0 and self.names_author
         is_marked = bool(cited.prefix or cited.suffix) or is_named
@@ -64,7 +74,8 @@ class Citation:
                         suppress_author=leaves_out, note=self.note)
 
 
-def citation_of(cite: Any, number: int, known: Set[str]) -> Citation:
+def citation_of(cite: Any, number: int, known: Set[str],
+                words_of_locators: Mapping[str, str] = ENGLISH) -> Citation:
     """A citation, by its Cite element. Entries that aren't known stand as such beside their
     neighbours."""
     parts, shown = cite['c']
@@ -80,16 +91,16 @@ def citation_of(cite: Any, number: int, known: Set[str]) -> Citation:
             else:
                 waiting += [*mark, *words(';')]
             continue
-        cited = _cited_of(part)
+        cited = _cited_of(part, words_of_locators)
         cited.prefix, waiting = joined([*waiting, *([SPACE] if waiting and cited.prefix else []),
                                         *cited.prefix]), []
         made.cited.append(cited)
     return made
 
 
-def _cited_of(part: Any) -> Cited:
+def _cited_of(part: Any, words_of_locators: Mapping[str, str]) -> Cited:
     text, behind = leading_text(part['citationSuffix'])
-    locator, rest = _locators.split(text)
+    locator, rest = _locators.split(text, words_of_locators)
     suffix = joined([*words(rest), *behind])
     if not text_of(suffix).strip():
         suffix = []
@@ -114,13 +125,14 @@ def written(citation: Citation, tree: Tree, with_authors: Optional[Tree], links:
     made = Written([], [], [])
     parts = parts_of(tree)
     shown = {part.place for part in parts if text_of_pieces(part.pieces).strip()}
-    for part in _without_empty(citation, parts, shown):
+    for part in without_empty(parts, citation.has_words):
         if part.place is None:
             made.rest += _between(made.rest, part)
         else:
             made.rest += _cite(citation, part, links)
     if with_authors is not None:
-        made.names = inlines_of_pieces(names_in(_first(parts_of(with_authors)), _first(parts)))
+        names = names_in(first_cite(parts_of(with_authors)), first_cite(parts))
+        made.names = inlines_of_pieces(names)
     tells_places = not parts or any(part.place is not None for part in parts)
     for place, cited in enumerate(citation.cited):
         if cited.mode == SUPPRESS_AUTHOR and tells_places and place not in shown:
@@ -129,32 +141,6 @@ def written(citation: Citation, tree: Tree, with_authors: Optional[Tree], links:
     made.begins_with_words = first is not None and bool(citation.cited[first].prefix)
     made.rest = joined(made.rest)
     return made
-
-
-def _without_empty(citation: Citation, parts: List[Part], shown: Set[Optional[int]]) -> List[Part]:
-    """The parts without cites of which nothing is written and that have no words of the page
-    around them; nothing where no others are left."""
-    cites = [at for at, part in enumerate(parts) if part.place is not None]
-    kept = [at for at in cites if parts[at].place in shown or _has_words(citation, parts[at])]
-    if len(kept) == len(cites):
-        return parts
-    if not kept:
-        return []
-    found = parts[:cites[0]]
-    for at in kept:
-        before = max((cite for cite in cites if cite < at), default=at)
-        found += [*(parts[before + 1:at] if at != kept[0] else []), parts[at]]
-    return [*found, *parts[cites[-1] + 1:]]
-
-
-def _has_words(citation: Citation, part: Part) -> bool:
-    cited = citation.cited[part.place or 0]
-    return bool(cited.prefix or cited.suffix)
-
-
-def _first(parts: List[Part]) -> List[Any]:
-    """What is written of the first cite of a citation."""
-    return [piece for part in parts if part.place == 0 for piece in part.pieces]
 
 
 def _between(before: Inlines, part: Part) -> Inlines:

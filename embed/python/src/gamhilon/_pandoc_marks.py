@@ -7,7 +7,7 @@ no letter, and no style changes it.
 from __future__ import annotations
 
 import re
-from typing import Any, List, NamedTuple, Optional
+from typing import Any, Callable, List, NamedTuple, Optional, Sequence
 
 from ._writing import Piece, pieces
 from .answer import Node, Tree
@@ -97,3 +97,25 @@ def text_of_pieces(parts: List[Piece]) -> str:
     """The text of parts of a tree."""
     return ''.join(piece.node.get('text', piece.node.get('markup', ''))
                    for piece in parts if piece.kind in ('text', 'markup'))
+
+
+def first_cite(parts: Sequence[Part]) -> List[Piece]:
+    """What is written of the first cite of a citation."""
+    return [piece for part in parts if part.place == 0 for piece in part.pieces]
+
+
+def without_empty(parts: List[Part], has_words: Callable[[int], bool]) -> List[Part]:
+    """The parts without cites of which nothing is written and that have no words of the page around
+    them, by their places; nothing where no others are left."""
+    cites = [at for at, part in enumerate(parts) if part.place is not None]
+    shown = {part.place for part in parts if text_of_pieces(part.pieces).strip()}
+    kept = [at for at in cites if parts[at].place in shown or has_words(parts[at].place or 0)]
+    if len(kept) == len(cites):
+        return parts
+    if not kept:
+        return []
+    found = parts[:cites[0]]
+    for at in kept:
+        before = max((cite for cite in cites if cite < at), default=at)
+        found += [*(parts[before + 1:at] if at != kept[0] else []), parts[at]]
+    return [*found, *parts[cites[-1] + 1:]]

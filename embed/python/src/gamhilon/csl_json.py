@@ -10,9 +10,12 @@ What an entry of docs/DOCUMENT.md has no place for is listed as a loss.
 from __future__ import annotations
 
 import json
+import os
 import re
 from dataclasses import dataclass
-from typing import Any, Dict, Iterable, List, Optional, Tuple
+from typing import Any, Dict, Iterable, List, Optional, Tuple, Union
+
+from .errors import GamhilonError
 
 __all__ = ['Converted', 'CslJsonError', 'Entry', 'Loss', 'entries', 'label', 'load', 'summary']
 
@@ -39,7 +42,7 @@ _NAME_PARTS = {'family', 'given', 'dropping-particle', 'non-dropping-particle', 
                'static-ordering', 'parse-names', 'isInstitution'}
 
 
-class CslJsonError(ValueError):
+class CslJsonError(GamhilonError, ValueError):
     """A text or a value that isn't CSL-JSON: not a list of items."""
 
 
@@ -65,7 +68,7 @@ class Converted:
     losses: List[Loss]
 
 
-def load(path: str) -> List[Any]:
+def load(path: Union[str, 'os.PathLike[str]']) -> List[Any]:
     """The items of a file of CSL-JSON. Raises CslJsonError where it isn't one, and OSError where it
     can't be read."""
     with open(path, 'rb') as file:
@@ -77,10 +80,12 @@ def load(path: str) -> List[Any]:
 
 
 def entries(items: Any) -> Converted:
-    """The entries of a list of CSL-JSON items. Raises CslJsonError where it isn't one."""
+    """The entries of a list of CSL-JSON items, or of what `references.load` gives. Raises
+    CslJsonError where it isn't one."""
     found: Dict[str, Entry] = {}
     losses: List[Loss] = []
-    for place, item in enumerate(_items_of(items)):
+    read = getattr(items, 'items', None)
+    for place, item in enumerate(_items_of(read if isinstance(read, list) else items)):
         if not isinstance(item, dict):
             raise CslJsonError(f'item {place} is not an object')
         key = _as_text(item.get('id'))

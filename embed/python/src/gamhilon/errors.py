@@ -6,12 +6,18 @@ from typing import List, Optional
 from .texts import TextFault, TextWarning
 
 __all__ = [
-    'DocumentRefused', 'LibraryMissing', 'LimitExceeded', 'MacroRing', 'NumberOverflow',
-    'OutOfMemory', 'Refused', 'TextRefused', 'TooDeep', 'TooManyElements', 'Unsettled',
+    'DocumentRefused', 'GamhilonError', 'LibraryMissing', 'LimitExceeded', 'MacroRing',
+    'NumberOverflow', 'OutOfMemory', 'Refused', 'TextRefused', 'TooDeep', 'TooManyElements',
+    'Unsettled',
 ]
 
 
-class Refused(Exception):
+class GamhilonError(Exception):
+    """What the package raises by itself: each of its errors is one, and a ValueError or an OSError
+    and the like beside it."""
+
+
+class Refused(GamhilonError):
     """There is no answer. `status` is that of gamhilon.h."""
 
     status = 0
@@ -104,5 +110,5 @@ class Unsettled(Refused, RuntimeError):
     status = 9
 
 
-class LibraryMissing(OSError):
+class LibraryMissing(GamhilonError, OSError):
     """The shared library isn't there, or can't be loaded."""

@@ -73,6 +73,11 @@ def _item(item: Item, markup: Escape) -> str:
     return f'{left}<div class="csl-right-inline">{content}</div>' if content else left
 
 
+def inline_html(parts: Sequence[Piece], markup: Escape = html.escape) -> str:
+    """The HTML of parts of a tree, to stand in a paragraph."""
+    return _html(parts, markup, 'span')
+
+
 def _html(parts: Sequence[Piece], markup: Escape, block: str) -> str:
     out: List[str] = []
     for piece in parts:
@@ -83,11 +88,16 @@ def _html(parts: Sequence[Piece], markup: Escape, block: str) -> str:
             out.append(markup(piece.node['markup']))
         elif piece.kind == 'open':
             out.append(f'<{block} class="csl-{html.escape(display)}">' if display else '')
-            out.append(f'<a href="#{piece.link}">' if piece.link else '')
+            out.append(f'<a href="{html.escape(_target(piece.link))}">' if piece.link else '')
         else:
             out.append('</a>' if piece.link else '')
             out.append(f'</{block}>' if display else '')
     return ''.join(out)
+
+
+def _target(link: str) -> str:
+    """The address of an item: an id of this page, or an address with that."""
+    return link if '#' in link else f'#{link}'
 
 
 def _text(node: Node) -> str:

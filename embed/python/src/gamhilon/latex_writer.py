@@ -60,6 +60,11 @@ def _item(item: Item, markup: Escape) -> str:
     return rf'{_latex(_addresses.with_links(pieces(item.first_field)), markup)}\quad {content}'
 
 
+def inline_latex(parts: Sequence[Piece]) -> str:
+    """The LaTeX of parts of a tree."""
+    return _latex(parts, escaped)
+
+
 def _latex(parts: Sequence[Piece], markup: Escape) -> str:
     out: List[str] = []
     before = ''

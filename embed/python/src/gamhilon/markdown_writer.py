@@ -38,7 +38,16 @@ def to_markdown(part: Union[Citation, Node, Tree], keys: Sequence[str] = (),
     return _markdown(pieces(tree_of(part), keys), markup)
 
 
+def inline_markdown(parts: Sequence[Piece]) -> str:
+    """The Markdown of parts of a tree, to stand in a line behind other words."""
+    return _joined(parts, escaped)
+
+
 def _markdown(parts: Sequence[Piece], markup: Escape) -> str:
+    return begun(_joined(parts, markup))
+
+
+def _joined(parts: Sequence[Piece], markup: Escape) -> str:
     out: List[str] = []
     before = ''
     for place, piece in enumerate(parts):
@@ -48,10 +57,15 @@ def _markdown(parts: Sequence[Piece], markup: Escape) -> str:
         elif piece.kind == 'markup':
             text = markup(piece.node['markup'])
         elif piece.link:
-            text = '[' if piece.kind == 'open' else f'](#{piece.link})'
+            text = '[' if piece.kind == 'open' else f']({_target(piece.link)})'
         out.append(text)
         before = text[-1:] or before
-    return _begun(''.join(out))
+    return ''.join(out)
+
+
+def _target(link: str) -> str:
+    """The address of an item: an id of this page, or an address with that."""
+    return link if '#' in link else f'#{link}'
 
 
 def bibliography_to_markdown(bibliography: Optional[Bibliography],
@@ -71,7 +85,7 @@ def escaped(text: str) -> str:
     return _SPECIAL.sub(lambda match: '\\' + match.group(), single_spaced(text))
 
 
-def _begun(text: str) -> str:
+def begun(text: str) -> str:
     """The text with no mark of a list, a block of code and the like at its beginning."""
     text = re.sub('^ +', ' ', text)
     mark = _LIST_MARK.match(text)

@@ -28,6 +28,7 @@ import sys
 from typing import Any, Dict, Iterator, List, Optional, Sequence, Set, Tuple, Union
 
 from . import _addresses, _console, csl
+from ._locators import words_of
 from ._nearest import meant
 from ._pandoc_cites import NORMAL, Citation, Written, citation_of, written
 from ._pandoc_inlines import (SPACE, Inlines, capitalized, div, inlines_of_pieces, joined, span,
@@ -96,7 +97,8 @@ class _Filter:
         self.links_addresses = self.meta.truth('link-bibliography', True)
         self.moves_punctuation = self.meta.truth('notes-after-punctuation', True)
         self.sources: List[Source] = self.meta.sources()
-        self.style.take(self.sources)
+        self.style.take_sources(self.sources)
+        self.words_of_locators = words_of(self.style.locale)
         self.citations: Dict[int, Citation] = {}
         self.written: Dict[int, Written] = {}
         self.notes = 0
@@ -134,7 +136,8 @@ class _Filter:
                 self.collect(member, is_in_note or is_note, is_in_link or value.get('t') == 'Link')
 
     def collect_cite(self, cite: Any, is_in_note: bool, is_in_link: bool) -> None:
-        citation = citation_of(cite, len(self.citations) + 1, self.style.keys)
+        citation = citation_of(cite, len(self.citations) + 1, self.style.keys,
+                               self.words_of_locators)
         citation.is_in_note, citation.is_in_link = is_in_note, is_in_link
         citation.keeps_names = is_in_note and self.style.is_note
         if self.style.is_note and citation.cited:

@@ -3,7 +3,7 @@ has them.
 
     from gamhilon import csl, styles
 
-    csl.render('author-date', entries, citations)
+    csl.render('author-date', references, citations)
     print(styles.text('author-date'))           # the file, to be changed
 """
 from __future__ import annotations

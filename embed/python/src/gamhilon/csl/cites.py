@@ -3,7 +3,7 @@ from __future__ import annotations
 
 import reprlib
 from dataclasses import dataclass
-from typing import Any, Dict, List, Mapping, Optional, Sequence, Union
+from typing import Any, Dict, Iterator, List, Mapping, Optional, Sequence, Union
 
 from .._nearest import meant
 from .errors import CitationRefused, place
@@ -65,7 +65,7 @@ class CitationReader:
 
     def citations(self, values: Any) -> List[List[Cite]]:
         """The citations of a document. Raises CitationRefused where one isn't of its form."""
-        if not _is_list(values):
+        if not _is_list(values) and not isinstance(values, Iterator):
             raise CitationRefused(None, None, None, 'the citations are no list of citations')
         return [self._citation(number, value) for number, value in enumerate(values)]
 

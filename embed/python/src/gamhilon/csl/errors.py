@@ -3,14 +3,16 @@ from __future__ import annotations
 
 from typing import Optional
 
+from ..errors import GamhilonError
+
 __all__ = ['CitationRefused', 'EntriesRefused', 'StyleMissing', 'StyleRefused']
 
 
-class StyleMissing(ValueError):
+class StyleMissing(GamhilonError, ValueError):
     """There is no style of this name or path."""
 
 
-class StyleRefused(ValueError):
+class StyleRefused(GamhilonError, ValueError):
     """A style file or a locale file isn't one that can be read.
 
     `file` is its path, or `the style` where its text was handed in; `line` and `column` count from
@@ -26,7 +28,7 @@ class StyleRefused(ValueError):
         return f'{self.file}{place}: {self.fault}'
 
 
-class CitationRefused(ValueError):
+class CitationRefused(GamhilonError, ValueError):
     """A citation can't be read, or cites an entry that isn't there.
 
     `citation` is its index, `cite` that of its cite, both from 0, and `field` the key of that; None
@@ -44,7 +46,7 @@ class CitationRefused(ValueError):
         return f'{place(self.citation, self.cite, self.field)}: {self.fault}'
 
 
-class EntriesRefused(ValueError):
+class EntriesRefused(GamhilonError, ValueError):
     """The entries are no list of entries."""
 
 

@@ -15,7 +15,7 @@ FOLDER = '/usr/share/citation-style-language/locales'
 BUILT_IN = 'en-US'
 """The language whose words the library has."""
 
-Locales = Union[str, Sequence[str]]
+Locales = Union[str, 'os.PathLike[str]', Sequence[Union[str, 'os.PathLike[str]']]]
 """Where locale files are: a folder of them, or the paths or texts of some."""
 
 _PRIMARY_DIALECTS = {
@@ -49,9 +49,9 @@ def files_for(language: str, locales: Optional[Locales]) -> List[LocaleFile]:
     """The locale files in which words of a language are looked for: those of the dialect and of
     the language's primary dialect in a folder, or all that are handed in. Raises StyleRefused where
     one that is handed in can't be read."""
-    if locales is not None and not isinstance(locales, str):
-        return [_handed_in(number, locale) for number, locale in enumerate(locales)]
-    folder = FOLDER if locales is None else locales
+    if locales is not None and not isinstance(locales, (str, os.PathLike)):
+        return [_handed_in(number, os.fspath(locale)) for number, locale in enumerate(locales)]
+    folder = FOLDER if locales is None else os.fspath(locales)
     files: List[LocaleFile] = []
     for tag in _tags(language):
         path = os.path.join(folder, f'locales-{tag}.xml')

@@ -1,9 +1,10 @@
 """Citations and a bibliography in a style."""
 from __future__ import annotations
 
-from dataclasses import dataclass, replace
-from typing import Any, Dict, List, Mapping, Optional, Sequence, Tuple
+from dataclasses import replace
+from typing import Dict, Iterable, List, Mapping, Optional, Sequence, Tuple, Union
 
+from .._deprecated import deprecated
 from .._nearest import meant
 from ..answer import Answer, Item, Node, Tree, plain
 from ..errors import TextRefused
@@ -11,12 +12,15 @@ from .calling import Document, steps_of
 from .cites import Cite, CiteLike, CitationReader
 from .entries import Entry, EntryReader, stand_in, warned_of_stand_in
 from .errors import CitationRefused, StyleRefused
+from .handed_in import ReferencesLike, StyleLike, items_of, style_of
 from .locales import LocaleFile, Locales, files_for, with_dialect
+from .results import Rendered, item_text
 from .style import About, Style, is_locale, language_of, load, name_of
 from .warned import Warned
 
 __all__ = [
-    'Rendered', 'about', 'check_entries', 'check_file', 'check_locale', 'check_style', 'render',
+    'about', 'check_entries', 'check_file', 'check_locale', 'check_references', 'check_style',
+    'render',
 ]
 
 NOTHING = 'the style writes nothing of it'
@@ -24,54 +28,76 @@ LANGUAGE = 'en-US'
 """The language where neither the caller nor the style tells one."""
 
 
-@dataclass(frozen=True)
-class Rendered:
-    """The answer, with its trees: a citation for each that was handed in, in that order; and what
-    was odd in the style, the entries and the citations, each with its place."""
+def render(style: StyleLike, references: Optional[ReferencesLike] = None,
+           citations: Optional[Iterable[Sequence[CiteLike]]] = None, *,
+           nocite: Union[str, Iterable[str]] = (), locale: Optional[str] = None,
+           locales: Optional[Locales] = None, entries: Optional[ReferencesLike] = None) -> Rendered:
+    """Citations and the bibliography in a style.
 
-    answer: Answer
-    warnings: List[Warned]
+        >>> works = [{'id': 'doe99', 'type': 'book', 'title': 'On Order',
+        ...           'author': [{'family': 'Doe'}], 'issued': {'date-parts': [[1999]]}}]
+        >>> rendered = render('author-date', works, [[{'id': 'doe99', 'locator': '4'}]])
+        >>> print(rendered.citations[0])
+        (Doe 1999, p. 4)
+        >>> print(rendered.citations[0].to_html(links=True))
+        (<a href="#ref-doe99">Doe 1999, p. 4</a>)
+        >>> print(render('author-date', works).bibliography)
+        Doe. 1999. On Order.
 
-    @property
-    def citations(self) -> List[str]:
-        """The text of each citation."""
-        return [plain(citation.content) for citation in self.answer.citations]
-
-    @property
-    def bibliography(self) -> Dict[str, str]:
-        """The text of each item, by the id of its entry, in their order; empty where the style has
-        no bibliography."""
-        items = self.answer.bibliography.items if self.answer.bibliography else []
-        return {item.key: _text_of(item) for item in items}
-
-
-def render(style: str, entries: Sequence[Mapping[str, Any]],
-           citations: Sequence[Sequence[CiteLike]], *, locale: Optional[str] = None,
-           locales: Optional[Locales] = None) -> Rendered:
-    """Citations and the bibliography in a style: its name, its path, or its text. `locale` is the
-    language in place of the style's; `locales` a folder of locale files in place of Debian's, or
-    the paths or texts of some.
+    `style` is a name, a path or the text of a style; `references` are items of CSL-JSON, what
+    `references.load` gives, or the path of a file. `citations` are lists of cites; without them all
+    references are listed. `nocite` are keys that are listed without being cited, `'*'` for all.
+    `locale` is the language in place of the style's; `locales` a folder of locale files in place of
+    Debian's, or the paths or texts of some. `entries` is the older name of `references`.
 
     What is odd is a warning of what is rendered. An entry that can't be written as it is loses the
     field that is wrong, or its id stands for it. Raises StyleMissing where there is no such style,
     StyleRefused where a style or a locale file isn't one, CitationRefused where a citation isn't
-    one or cites an entry that isn't there, EntriesRefused where the entries are no list (each of
-    these is a ValueError); Unsettled, NumberOverflow or OutOfMemory, and LibraryMissing.
+    one or cites an entry that isn't there, EntriesRefused where the references are no list (each of
+    these is a ValueError); Unsettled, NumberOverflow or OutOfMemory, and LibraryMissing; what
+    `references.load` raises of a path. Each of them is a GamhilonError.
     """
+    given = _references(references, entries)
     entry_reader, citation_reader = EntryReader(), CitationReader()
-    found = load(style)
-    cites = citation_reader.citations(citations)
-    known = _cited(entry_reader.entries(entries), cites)
+    found = load(style_of(style))
+    cites = citation_reader.citations(() if citations is None else citations)
+    known = entry_reader.entries(items_of(given))
+    listed = _listed(known, '*' if citations is None else nocite)
+    asked = [*cites, *([[Cite(key, hidden=True) for key in listed]] if listed else [])]
     language = with_dialect(locale or found.language or LANGUAGE)
     files = files_for(language, locales)
-    document = Document(found, files, list(known.values()), cites, language)
+    document = Document(found, files, list(_cited(known, asked).values()), asked, language)
     warnings = [*entry_reader.warnings, *citation_reader.warnings]
-    return _rendered(document, warnings)
+    return _rendered(document, warnings, len(cites))
 
 
-def about(style: str) -> About:
+def _references(references: Optional[ReferencesLike],
+                entries: Optional[ReferencesLike]) -> ReferencesLike:
+    """The references, by the name of either argument."""
+    if entries is None and references is not None:
+        return references
+    if entries is None or references is not None:
+        raise TypeError("render() takes one list of references, the argument 'references'")
+    deprecated('the argument entries of csl.render', 'references', 4)
+    return entries
+
+
+def _listed(entries: Mapping[str, Entry], nocite: Union[str, Iterable[str]]) -> List[str]:
+    """The keys that are listed without being cited. Raises CitationRefused where an entry isn't
+    there."""
+    keys = list(dict.fromkeys([nocite] if isinstance(nocite, str) else nocite))
+    if '*' in keys:
+        return list(entries)
+    for key in keys:
+        if key not in entries:
+            fault = f'nocite: there is no entry {key!r}{meant(key, entries)}'
+            raise CitationRefused(None, None, None, fault)
+    return keys
+
+
+def about(style: StyleLike) -> About:
     """What a style is. Raises StyleMissing and StyleRefused, as `render` does."""
-    found = load(style)
+    found = load(style_of(style))
     if found.about is not None:
         return found.about
     _refuse(_of_style(found))
@@ -90,13 +116,19 @@ def check_locale(text: str, file: str = 'the locale') -> List[Warned]:
     return _refuse(replace(_of_style(load('author-date')), locales=[LocaleFile(file, text)]))
 
 
-def check_entries(entries: Sequence[Mapping[str, Any]]) -> List[Warned]:
-    """What is odd in entries. Raises EntriesRefused where they are no list, or where one isn't of
-    its form."""
+def check_references(references: ReferencesLike) -> List[Warned]:
+    """What is odd in references, as `render` takes them. Raises EntriesRefused where they are no
+    list, or where one isn't of its form."""
     reader = EntryReader()
-    known = list(reader.entries(entries).values())
+    known = list(reader.entries(items_of(references)).values())
     found = _refuse(replace(_of_style(load('author-date')), entries=known))
     return [*reader.warnings, *found]
+
+
+def check_entries(entries: ReferencesLike) -> List[Warned]:
+    """The older name of `check_references`."""
+    deprecated('csl.check_entries', 'csl.check_references')
+    return check_references(entries)
 
 
 def check_file(text: str, file: str) -> Tuple[str, List[Warned]]:
@@ -142,8 +174,9 @@ def _cited(entries: Dict[str, Entry], citations: Sequence[Sequence[Cite]]) -> Di
     return {key: entry for key, entry in entries.items() if key in cited}
 
 
-def _rendered(document: Document, warnings: List[Warned]) -> Rendered:
-    """The answer to a document. Fields of entries that are wrong are left out."""
+def _rendered(document: Document, warnings: List[Warned], shown: int) -> Rendered:
+    """The answer to a document, of whose citations the first ones are shown. Fields of entries that
+    are wrong are left out."""
     while True:
         try:
             answer = document.answer()
@@ -151,7 +184,9 @@ def _rendered(document: Document, warnings: List[Warned]) -> Rendered:
         except TextRefused as refusal:
             document = _mended(document, refusal, warnings)
     warnings += [document.warned(warning) for warning in answer.warnings]
-    return Rendered(_with_stand_ins(document, answer, warnings), warnings)
+    answer = _with_stand_ins(document, answer, warnings)
+    return Rendered(replace(answer, citations=answer.citations[:shown], warnings=[]), warnings,
+                    document.citations[:shown])
 
 
 def _mended(document: Document, refusal: TextRefused, warnings: List[Warned]) -> Document:
@@ -183,7 +218,7 @@ def _with_stand_ins(document: Document, answer: Answer, warnings: List[Warned]) 
         return answer
     items = []
     for item in answer.bibliography.items:
-        if not _text_of(item).strip():
+        if not item_text(item).strip():
             warnings.append(warned_of_stand_in(item.key, NOTHING))
             item = Item(item.key, _stand_in(item.key))
         items.append(item)
@@ -194,7 +229,3 @@ def _stand_in(key: str) -> Tree:
     node: Node = {'text': key, 'font_style': 'normal', 'font_weight': 'bold'}
     return [node]
 
-
-def _text_of(item: Item) -> str:
-    first = plain(item.first_field) if item.first_field else ''
-    return first + plain(item.content)

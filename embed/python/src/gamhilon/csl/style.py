@@ -11,6 +11,7 @@ from .. import styles
 from .._nearest import meant
 from .errors import StyleMissing
 from .files import is_text, text_of
+from .handed_in import StyleLike, style_of
 
 __all__ = [
     'FOLDER', 'About', 'Style', 'find', 'is_locale', 'language_of', 'load', 'name_of', 'names',
@@ -58,9 +59,10 @@ def names() -> List[str]:
     return sorted(published.union(styles.names()))
 
 
-def find(style: str) -> str:
+def find(style: StyleLike) -> str:
     """The path of a style: a path itself, or the name of one of this package or of Debian's. Raises
     StyleMissing."""
+    style = style_of(style)
     if style in styles.names():
         return styles.path(style)
     is_path = style.endswith(_SUFFIX) or os.sep in style
@@ -101,10 +103,10 @@ def name_of(text: str) -> str:
     return f'{title} ({key})'
 
 
-def variables_of(style: str) -> FrozenSet[str]:
+def variables_of(style: StyleLike) -> FrozenSet[str]:
     """The variables of CSL that a style writes, by its name, its path or its text: those of its
     texts, numbers, dates, names and labels. Raises StyleMissing, as `load` does."""
-    root = _root_of(load(style).text)
+    root = _root_of(load(style_of(style)).text)
     if root is None:
         return frozenset()
     told = [element.get('variable', '') for name in _WRITE_VARIABLES

@@ -18,7 +18,7 @@ import json
 import os
 import re
 from dataclasses import dataclass
-from typing import Any, Dict, List, Optional, Tuple
+from typing import Any, Dict, List, Optional, Tuple, Union
 
 from .. import _console, _faults
 from ..csl_json import Loss
@@ -27,12 +27,15 @@ from .errors import ReaderMissing, ReferencesError
 from .shown import is_shown
 
 __all__ = [
-    'FORMS', 'Item', 'ReaderMissing', 'References', 'ReferencesError', 'form_of', 'is_named',
-    'is_shown', 'load', 'loads', 'read',
+    'FORMS', 'Item', 'PathLike', 'ReaderMissing', 'References', 'ReferencesError', 'form_of',
+    'is_named', 'is_shown', 'load', 'loads', 'read',
 ]
 
 Item = Dict[str, Any]
 """An item of CSL-JSON."""
+
+PathLike = Union[str, 'os.PathLike[str]']
+"""The path of a file."""
 
 FORMS = ('csl-json', 'biblatex', 'bibtex', 'hayagriva')
 
@@ -55,7 +58,7 @@ class References:
     problems: List[str]
 
 
-def load(path: str, *, form: Optional[str] = None, lang: str = 'en-US') -> References:
+def load(path: PathLike, *, form: Optional[str] = None, lang: str = 'en-US') -> References:
     """The references of a file, or of standard input where the path is `-`.
 
     The form is one of FORMS; where none is told the name of the file tells it, and else the file.
@@ -63,6 +66,7 @@ def load(path: str, *, form: Optional[str] = None, lang: str = 'en-US') -> Refer
     sentence case, which CSL asks for. Raises ReferencesError where the file isn't of its form,
     ReaderMissing where nothing reads it, and OSError.
     """
+    path = os.fspath(path)
     try:
         return read(path, _console.read(path), form=form, lang=lang)
     except ReferencesError as error:

@@ -1,0 +1,126 @@
+"""The style in which citations of pages are written: those of pandoc's pages and of Markdown."""
+from __future__ import annotations
+
+from dataclasses import dataclass
+from typing import Any, Dict, Iterable, List, Optional, Sequence, Set
+
+from . import csl
+from ._pandoc_marks import without_marks
+from .answer import Bibliography, Tree
+
+Item = Dict[str, Any]
+
+
+class PageCitation:
+    """What the style asks of a citation of a page."""
+
+    note: Optional[int] = None
+
+    @property
+    def keys(self) -> List[str]:
+        """The keys of its cites."""
+        raise NotImplementedError
+
+    @property
+    def names_author(self) -> bool:
+        """Whether the author of the first cite stands in the text, before the citation."""
+        raise NotImplementedError
+
+    def cites(self, keeps_authors: bool = False) -> List[csl.Cite]:
+        """The cites of a style: without the author that stands in the text, unless it is kept."""
+        raise NotImplementedError
+
+
+@dataclass(frozen=True)
+class Answered:
+    """What a style writes: the tree of each citation; where its author stands in the text, the tree
+    that has it too; and the reference list."""
+
+    trees: List[Tree]
+    with_authors: List[Optional[Tree]]
+    bibliography: Optional[Bibliography]
+    warnings: List[csl.Warned]
+
+
+class CitedStyle:
+    """A style, by its name, the path of its file or its text, with the references of pages. Raises
+    StyleMissing and StyleRefused."""
+
+    def __init__(self, name: str, locale: Optional[str] = None,
+                 locales: Optional[csl.Locales] = None) -> None:
+        self.name, self.locale, self.locales = name, locale, locales
+        self.about = csl.about(name)
+        self.is_note = self.about.is_note
+        self.items: Dict[str, Item] = {}
+        self.keys: Set[str] = set()
+
+    def take(self, items: Iterable[Item]) -> None:
+        """Takes references. The first of a key counts."""
+        for item in items:
+            self.items.setdefault(str(item['id']), without_marks(item))
+        self.keys = set(self.items)
+
+    def answer(self, citations: Sequence[PageCitation], nocite: Sequence[str]) -> Answered:
+        """Writes citations, and the list of what they cite and of what is listed without being
+        cited."""
+        rendered = self._rendered(citations, nocite, keeps_authors=False)
+        trees = [citation.content for citation in rendered.answer.citations]
+        whole = trees
+        if any(citation.names_author for citation in citations):
+            again = self._rendered(citations, nocite, keeps_authors=True)
+            whole = [citation.content for citation in again.answer.citations]
+        places = _places(citations, self.is_note)
+        with_authors = [whole[place] if citation.names_author else None
+                        for place, citation in zip(places, citations)]
+        numbers = {place: number for number, place in enumerate(places)}
+        warnings = [warned for warned in rendered.warnings
+                    if warned.citation is None or warned.citation in numbers]
+        return Answered([trees[place] for place in places], with_authors,
+                        rendered.answer.bibliography,
+                        [_of_page(warned, numbers) for warned in warnings])
+
+    def _rendered(self, citations: Sequence[PageCitation], nocite: Sequence[str],
+                  keeps_authors: bool) -> csl.Rendered:
+        asked: List[List[csl.Cite]] = []
+        for number, citation in enumerate(citations):
+            if self.is_note and _repeats(citations, number):
+                asked.append(_between(citations[number - 1]))
+            asked.append(citation.cites(keeps_authors))
+        if nocite:
+            asked.append([csl.Cite(key, hidden=True) for key in nocite])
+        return csl.render(self.name, list(self.items.values()), asked, locale=self.locale,
+                          locales=self.locales)
+
+
+def _repeats(citations: Sequence[PageCitation], number: int) -> bool:
+    """Whether the author of a citation stands in the text, and the one before it is of the same
+    work, so that a style of notes would write `Ibid.` in place of both."""
+    if number == 0 or not citations[number].names_author:
+        return False
+    return citations[number - 1].keys == citations[number].keys[:1]
+
+
+def _between(before: PageCitation) -> List[csl.Cite]:
+    """What stands between a citation and one that isn't to be `Ibid.`: two cites of its work that
+    aren't shown, in its note."""
+    hidden = csl.Cite(before.keys[0], hidden=True, note=before.note)
+    return [hidden, hidden]
+
+
+def _places(citations: Sequence[PageCitation], is_note: bool) -> List[int]:
+    """The places of citations among those that are asked for."""
+    places: List[int] = []
+    at = 0
+    for number in range(len(citations)):
+        at += is_note and _repeats(citations, number)
+        places.append(at)
+        at += 1
+    return places
+
+
+def _of_page(warned: csl.Warned, numbers: Dict[int, int]) -> csl.Warned:
+    """A warning of a citation, by its number among those of the page."""
+    if warned.citation is None:
+        return warned
+    number = numbers[warned.citation]
+    return csl.Warned(warned.place, warned.message, citation=number, entry=warned.entry)

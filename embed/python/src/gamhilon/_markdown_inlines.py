@@ -1,0 +1,145 @@
+"""Where the inline elements of a text of Markdown end, as far as citations have to know."""
+from __future__ import annotations
+
+import re
+from typing import Dict, List, Optional, Pattern, Tuple
+
+MARKS = '*_"\''
+"""What emphasis and quotes stand between."""
+
+SPACES = re.compile(r'[ \t\u00a0]*(?:\n(?!\s*\n)[ \t]*(?:>[ \t]?)*)?[ \t\u00a0]*')
+"""White space within a paragraph: at most one line feed, with the marks of a block quote."""
+
+WORD = re.compile(r'(?:[^\W_]|\.(?!\.))+')
+"""A word, as pandoc reads one: behind it no `@` begins a citation."""
+
+_TAG = re.compile(
+    r'<!--.*?-->|<\?.*?\?>|<![A-Z][^>]*>|<!\[CDATA\[.*?\]\]>'
+    r'|</[A-Za-z][\w-]*\s*>'
+    r'|<[A-Za-z][\w-]*(?:\s+[A-Za-z_:][\w.:-]*(?:\s*=\s*(?:"[^"]*"|\'[^\']*\'|[^\s"\'=<>`]+))?)*'
+    r'\s*/?>', re.DOTALL)
+_AUTOLINK = re.compile(r'<[A-Za-z][A-Za-z0-9+.-]{1,31}:[^\s<>]*>'
+                       r'|<[\w.!#$%&\'*+/=?^`{|}~-]+@[\w.-]+>')
+_RAW = re.compile(r'<(pre|script|style|textarea|code)\b.*?</\1\s*>', re.DOTALL | re.IGNORECASE)
+_ADDRESS = re.compile(r'(?:https?://|mailto:|www\.)[^\s<>\[\]]*[^\s<>\[\].,;:!?\'")]')
+_TEMPLATE = re.compile(r'\{\{.*?\}\}|\{%.*?%\}|\{#.*?#\}', re.DOTALL)
+_DISPLAYED = re.compile(r'\$\$.+?\$\$', re.DOTALL)
+_MATH = re.compile(r'\$(?=[^\s$])(?:\\.|[^\\$])*?(?<=[^\s\\])\$(?!\d)', re.DOTALL)
+_WIKI = re.compile(r'!?\[\[[^\[\]\n]*\]\]')
+_DESTINATION = re.compile(
+    r'\([ \t\n]*(?:<[^<>\n]*>|(?:\\.|[^\s()\\]|\((?:\\.|[^\s()\\])*\))*)'
+    r'(?:[ \t\n]+(?:"(?:\\.|[^"\\])*"|\'(?:\\.|[^\'\\])*\'|\((?:\\.|[^()\\])*\)))?[ \t\n]*\)')
+_ATTRIBUTES = re.compile(r'\{[ \t]*(?:[#.][\w:.-]+|[\w-]+=(?:"[^"]*"|[^\s{}]+)|-)'
+                         r'(?:[ \t]+(?:[#.][\w:.-]+|[\w-]+=(?:"[^"]*"|[^\s{}]+)))*[ \t]*\}')
+_OPAQUE: Dict[str, Tuple[Pattern[str], ...]] = {
+    '<': (_RAW, _TAG, _AUTOLINK), '{': (_TEMPLATE,), '$': (_DISPLAYED, _MATH),
+    'h': (_ADDRESS,), 'm': (_ADDRESS,), 'w': (_ADDRESS,), '!': (_WIKI,), '[': (_WIKI,),
+}
+
+
+
+class InlineReader:
+    """Where the inline elements of a paragraph end."""
+
+    def __init__(self, text: str) -> None:
+        self.text = text
+        self._closing = self._pairs()
+
+    def end_of_inline(self, at: int, end: int) -> int:
+        """Where the element that begins at a place ends: an escaped letter, code, math, a link, a
+        tag, an address, a template, brackets, emphasis, quotes, a word, or a letter."""
+        letter = self.text[at]
+        if letter == '\\':
+            return min(at + 2, end)
+        if letter == '`':
+            return self._code(at, end)
+        opaque = self.end_of_opaque(at, end)
+        if opaque is not None:
+            return opaque
+        if self.text.startswith(('[', '![', '^['), at):
+            return self._bracketed(at, end)
+        if letter in MARKS:
+            return self._between_marks(at, end)
+        word = WORD.match(self.text, at, end)
+        return word.end() if word else at + 1
+
+    def end_of_opaque(self, at: int, end: int) -> Optional[int]:
+        """Where what Markdown doesn't read as text ends: an address, a tag, math, a template of a
+        site generator, a link of a wiki. None where nothing of this kind begins."""
+        letter = self.text[at]
+        patterns = _OPAQUE.get(letter, ())
+        if letter in 'hmw' and at and self.text[at - 1].isalnum():
+            return None
+        found = (pattern.match(self.text, at, end) for pattern in patterns)
+        return next((match.end() for match in found if match), None)
+
+    def closing_bracket(self, at: int, end: int) -> Optional[int]:
+        """Where the bracket that opens at a place closes."""
+        closing = self._closing.get(at, end)
+        return closing if closing < end else None
+
+    def end_of_target(self, at: int, end: int) -> Optional[int]:
+        """Where that ends which makes brackets before it a link, or a span with attributes; None
+        where nothing does."""
+        for pattern in (_DESTINATION, _ATTRIBUTES):
+            match = pattern.match(self.text, at, end)
+            if match:
+                return match.end()
+        if at < end and self.text.startswith('[', at) and not self.text.startswith('[^', at):
+            closing = self.closing_bracket(at, end)
+            return None if closing is None else closing + 1
+        return None
+
+    def _pairs(self) -> Dict[int, int]:
+        """The brackets of the text: where each one that opens closes."""
+        found: Dict[int, int] = {}
+        opened: List[int] = []
+        at, end = 0, len(self.text)
+        while at < end:
+            letter = self.text[at]
+            if letter == '[':
+                opened.append(at)
+            elif letter == ']' and opened:
+                found[opened.pop()] = at
+            if letter in '\\`':
+                at = min(at + 2, end) if letter == '\\' else self._code(at, end)
+            else:
+                opaque = self.end_of_opaque(at, end) if letter in '<${hmw' else None
+                at = opaque or at + 1
+        return found
+
+    def _bracketed(self, at: int, end: int) -> int:
+        opening = self.text.index('[', at)
+        closing = self.closing_bracket(opening, end)
+        if closing is None:
+            return at + 1
+        return self.end_of_target(closing + 1, end) or closing + 1
+
+    def _code(self, at: int, end: int) -> int:
+        """Where a span of code ends; where none closes, its marks do."""
+        run = self._run(at, end)
+        closing = re.compile(f'(?<!`)`{{{run - at}}}(?!`)').search(self.text, run, end)
+        return closing.end() if closing else run
+
+    def _run(self, at: int, end: int) -> int:
+        """Where a run of one letter ends."""
+        letter = self.text[at]
+        while at < end and self.text[at] == letter:
+            at += 1
+        return at
+
+    def _between_marks(self, at: int, end: int) -> int:
+        """Where emphasis or a quote ends; where none closes, its marks do."""
+        mark, text = self.text[at], self.text
+        run = self._run(at, end) if mark in '*_' else at + 1
+        before = text[at - 1] if at else ' '
+        if run >= end or text[run].isspace() or mark != '*' and before.isalnum():
+            return run
+        place = text.find(text[at:run], run, end)
+        while place >= 0:
+            after = place + run - at
+            is_closing = not text[place - 1].isspace() and text[place - 1] != '\\'
+            if is_closing and (mark == '*' or after >= end or not text[after].isalnum()):
+                return after
+            place = text.find(text[at:run], after, end)
+        return run

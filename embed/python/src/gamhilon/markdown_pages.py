@@ -1,0 +1,445 @@
+"""Pages of Markdown whose citations are written in a style, with their reference lists.
+
+    from gamhilon import markdown_pages, references
+
+    library = references.load('library.bib')
+    page = markdown_pages.cite_page(open('page.md').read(), 'apa', library)
+    print(page.text)
+
+Citations stand in pages as pandoc has them (`gamhilon.citation_text`). The list stands in the
+`div` of the id `refs` (`::: {#refs}`, `<div id="refs">`), in place of a mark, below the heading
+`# References`, or at the end. In a style of notes citations are footnotes, `[^1]`. Code, math,
+links, addresses, raw HTML and templates of site generators are left alone.
+"""
+from __future__ import annotations
+
+import re
+from bisect import bisect_right
+from dataclasses import dataclass, field, replace
+from typing import Callable, Dict, Iterable, List, Mapping, NamedTuple, Optional, Sequence, Tuple
+
+from . import csl
+from ._cited_style import CitedStyle
+from ._locators import words_of
+from ._markdown_blocks import Blocks, Paragraph, blocks_of
+from ._nearest import meant
+from ._page_cites import (CitationOfPage, CitationWriter, Written, capitalized, citation_of,
+                          text_of_runs, unknown, without_full_stop)
+from ._page_writers import HtmlInMarkdown, PageWriter, heading
+from ._writing import anchor
+from .answer import Bibliography
+from .citation_text import CitationReader, NoteMark, TextCitation, labels_in
+
+__all__ = ['CitedPage', 'PageWarning', 'Site', 'cite_page']
+
+TITLE = 'References'
+"""The heading below which a reference list stands, where no other is named."""
+
+
+@dataclass(frozen=True)
+class PageWarning:
+    """Something that is odd on a page: the name of the page, the line and the column (from 1; None
+    where it is in no place of the page), and what is odd."""
+
+    page: str
+    line: Optional[int]
+    column: Optional[int]
+    message: str
+
+    def __str__(self) -> str:
+        place = '' if self.line is None else f':{self.line}:{self.column}'
+        return f'{self.page}{place}: {self.message}'
+
+
+@dataclass(frozen=True)
+class CitedPage:
+    """A page with its citations written: its Markdown, and what is odd on it."""
+
+    text: str
+    warnings: List[PageWarning]
+
+    def __str__(self) -> str:
+        return self.text
+
+
+class _Edit(NamedTuple):
+    """A part of a page, and what stands in its place."""
+
+    start: int
+    end: int
+    text: str
+
+
+@dataclass
+class _Page:
+    """A page, its blocks and its citations, in the order in which they are read. `own_notes` has
+    the numbers of the notes that it defines itself, each with the place of that."""
+
+    name: str
+    text: str
+    blocks: Blocks
+    has_crlf: bool
+    notes_before: int
+    own_notes: Dict[int, int] = field(default_factory=dict)
+    citations: List[CitationOfPage] = field(default_factory=list)
+    nested: List[CitationOfPage] = field(default_factory=list)
+    warnings: List[PageWarning] = field(default_factory=list)
+    edits: List[_Edit] = field(default_factory=list)
+    written: Dict[int, Written] = field(default_factory=dict)
+
+    def warn(self, at: Optional[int], message: str) -> None:
+        line = None if at is None else self.text.count('\n', 0, at) + 1
+        column = None if at is None else at - (self.text.rfind('\n', 0, at) + 1) + 1
+        self.warnings.append(PageWarning(self.name, line, column, message))
+
+
+def cite_page(text: str, style: csl.StyleLike, references: csl.ReferencesLike, *,
+              locale: Optional[str] = None, locales: Optional[csl.Locales] = None,
+              nocite: Iterable[str] = (), links: bool = True, html: bool = False,
+              mark: Optional[str] = None, title: Optional[str] = None,
+              name: str = 'the page') -> CitedPage:
+    """A page of Markdown with its citations written, and its reference list.
+
+    `style`, `references`, `locale` and `locales` are those of `csl.render`. `nocite` are keys that
+    are listed without being cited, `*` for all. With `links` cites lead to the list. With `html`
+    what is written is HTML that any kind of Markdown leaves as it is; without, it is Markdown.
+    `mark` is a line in whose place the list stands, `title` its heading, which is added where the
+    page has none. `name` is how warnings name the page. Raises what `csl.render` raises.
+    """
+    site = Site(style, references, locale=locale, locales=locales, links=links, html=html,
+                mark=mark, title=title)
+    site.add(name, text)
+    site.write(nocite)
+    return site.page(name)
+
+
+class Site:
+    """Pages that share one numbering: `add` each, in their order, `write` all of them by one call
+    of the library, and take each `page`. Each has the list of what is cited on it, or `list_page`
+    has the whole list; `address` then gives the address of that page from another one."""
+
+    def __init__(self, style: csl.StyleLike, references: csl.ReferencesLike, *,
+                 locale: Optional[str] = None, locales: Optional[csl.Locales] = None,
+                 links: bool = True, html: bool = False, mark: Optional[str] = None,
+                 title: Optional[str] = None, list_page: Optional[str] = None,
+                 address: Callable[[str], str] = lambda page: '') -> None:
+        self.style = CitedStyle(csl.style_of(style), locale, locales)
+        self.style.take(csl.items_of(references))
+        self.words = words_of(locale, locales)
+        self.writer = HtmlInMarkdown() if html else PageWriter()
+        self.links, self.mark, self.title = links, mark, title
+        self.list_page, self.address = list_page, address
+        self.pages: Dict[str, _Page] = {}
+        self.warnings: List[PageWarning] = []
+        self.bibliography: Optional[Bibliography] = None
+        self._notes = 0
+
+    def add(self, name: str, text: str) -> None:
+        """Adds a page."""
+        has_crlf = '\r\n' in text
+        text = text.replace('\r\n', '\n')
+        page = _Page(name, text, blocks_of(text), has_crlf, self._notes)
+        self.pages[name] = page
+        _Collector(self, page).collect()
+
+    def next_note(self) -> int:
+        """The number of the next note."""
+        self._notes += 1
+        return self._notes
+
+    def write(self, nocite: Iterable[str] = ()) -> None:
+        """Writes the citations of all pages."""
+        asked = [(page, citation) for page in self.pages.values() for citation in page.citations
+                 if citation.cited]
+        answer = self.style.answer([citation for _, citation in asked], self._nocite(nocite))
+        self.bibliography = answer.bibliography
+        targets = {name: self._targets(name) for name in self.pages}
+        writers = {name: CitationWriter(self.writer, targets[name]) for name in self.pages}
+        trees = list(zip(asked, answer.trees, answer.with_authors))
+        # (those in the words of another one follow it)
+        for (page, citation), tree, whole in reversed(trees):
+            writer = writers[page.name]
+            written = writer.written(citation, tree, whole)
+            page.written[id(citation)] = written
+            writer.texts[id(citation)] = _in_line(writer, citation, written, True)
+            for lost in written.lost:
+                page.warn(citation.start, lost)
+        for page in self.pages.values():
+            _Placer(self, page, writers[page.name]).place()
+        self._warn(asked, answer.warnings)
+
+    def page(self, name: str) -> CitedPage:
+        """A page that is written."""
+        page = self.pages[name]
+        text, at = '', 0
+        for edit in sorted(page.edits, key=lambda edit: (edit.start, edit.end)):
+            text, at = text + page.text[at:edit.start] + edit.text, edit.end
+        text += page.text[at:]
+        warnings = sorted(page.warnings, key=lambda one: (one.line or 0, one.column or 0))
+        return CitedPage(text.replace('\n', '\r\n') if page.has_crlf else text,
+                         [*warnings, *(self.warnings if len(self.pages) == 1 else [])])
+
+    def listed(self, page: str) -> Optional[Bibliography]:
+        """The reference list of a page: of what is cited on it, or of all pages; None where it has
+        none."""
+        if self.bibliography is None or self.list_page not in (None, page):
+            return None
+        items = self.bibliography.items
+        if self.list_page is None and len(self.pages) > 1:
+            keys = {key for citation in self.pages[page].citations for key in citation.keys}
+            items = [item for item in items if item.key in keys]
+        return replace(self.bibliography, items=items) if items else None
+
+    def _targets(self, page: str) -> Dict[str, str]:
+        if not self.links or self.bibliography is None:
+            return {}
+        address = '' if self.list_page in (None, page) else self.address(page)
+        return {item.key: f'{address}#{anchor(item.key)}' for item in self.bibliography.items}
+
+    def _nocite(self, keys: Iterable[str]) -> List[str]:
+        asked = list(dict.fromkeys(key.lstrip('@') for key in keys))
+        if '*' in asked:
+            return list(self.style.items)
+        for key in asked:
+            if key not in self.style.keys:
+                self.warnings.append(PageWarning('nocite', None, None, self.no_entry(key)))
+        return [key for key in asked if key in self.style.keys]
+
+    def no_entry(self, key: str) -> str:
+        """What is said of a key that no entry has."""
+        return f'no entry has the key {key}{meant(key, self.style.keys)}'
+
+    def _warn(self, asked: Sequence[Tuple[_Page, CitationOfPage]],
+              warnings: Sequence[csl.Warned]) -> None:
+        for warned in warnings:
+            if warned.citation is None:
+                self.warnings.append(PageWarning(warned.place, None, None, warned.message))
+                continue
+            page, citation = asked[warned.citation]
+            is_whole = not citation.names_author and not any(
+                cited.cite.suppress_author for cited in citation.cited)
+            if is_whole:
+                page.warn(citation.start, warned.message)
+
+
+class _Collector:
+    """Collects the citations of a page as it is read: those of a note where its mark stands."""
+
+    def __init__(self, site: Site, page: _Page) -> None:
+        self.site, self.page = site, page
+        self.labels = labels_in(page.text)
+        self.left: Dict[str, List[Paragraph]] = {}
+        for paragraph in page.blocks.paragraphs:
+            if paragraph.note is not None:
+                self.left.setdefault(paragraph.note, []).append(paragraph)
+
+    def collect(self) -> None:
+        for paragraph in self.page.blocks.paragraphs:
+            if paragraph.note is None:
+                self._paragraph(paragraph, None)
+        for label in list(self.left):
+            self._note(label)
+
+    def _note(self, label: str) -> None:
+        """The definition of a note, at its first mark."""
+        paragraphs = self.left.pop(label, None)
+        if paragraphs is not None:
+            number = self.site.next_note()
+            self.page.own_notes[number] = self.page.blocks.notes[label]
+            for paragraph in paragraphs:
+                self._paragraph(paragraph, number)
+
+    def _paragraph(self, paragraph: Paragraph, note: Optional[int]) -> None:
+        text = self.page.text[paragraph.start:paragraph.end]
+        inline, inline_end = note, -1
+        for part in CitationReader(text, self.site.words, self.labels).parts(0, len(text)):
+            if part.start >= inline_end:
+                inline = note
+            if isinstance(part, NoteMark):
+                if part.label:
+                    self._note(part.label)
+                else:
+                    inline, inline_end = note or self.site.next_note(), part.end
+            else:
+                self._citation(part, paragraph.start, inline)
+
+    def _citation(self, found: TextCitation, offset: int, note: Optional[int]) -> None:
+        made = citation_of(found, self.site.style.keys)
+        made.start, made.end = found.start + offset, found.end + offset
+        for key in made.missing:
+            self.page.warn(made.start, self.site.no_entry(key))
+        self._add(made, note)
+        self.page.citations.append(made)
+        self._nested(made)
+
+    def _add(self, made: CitationOfPage, note: Optional[int]) -> None:
+        made.is_in_note = note is not None
+        if self.site.style.is_note and made.cited:
+            made.note = note or self.site.next_note()
+            made.keeps_names = made.is_in_note
+
+    def _nested(self, outer: CitationOfPage) -> None:
+        """The citations in the words around cites: of `[see @a and @b]` pandoc makes one cite, with
+        `@b` in the words behind it."""
+        for cited in outer.cited:
+            for words in (cited.prefix, cited.suffix):
+                reader = CitationReader(words.text, self.site.words)
+                for found in reader.citations(0, len(words.text)):
+                    inner = citation_of(found, self.site.style.keys)
+                    if not inner.cited:
+                        continue
+                    self.page.warn(outer.start, f'@{inner.keys[0]} stands in the words around '
+                                   f'@{cited.cite.id}, so that it is no cite beside it: a '
+                                   'semicolon between them makes it one')
+                    self._add(inner, outer.note)
+                    inner.is_in_note = inner.keeps_names = outer.note is not None
+                    words.citations.append((found.start, found.end, inner))
+                    self.page.nested.append(inner)
+                    inner.start, inner.end = outer.start, outer.start
+                    self.page.citations.append(inner)
+
+
+class _Placer:
+    """Puts what is written of a page in its place."""
+
+    def __init__(self, site: Site, page: _Page, writer: CitationWriter) -> None:
+        self.site, self.page, self.writer = site, page, writer
+        self.labels = set(page.blocks.notes)
+        self.starts = [paragraph.start for paragraph in page.blocks.paragraphs]
+        self.notes: List[str] = []
+
+    def place(self) -> None:
+        nested = {id(citation) for citation in self.page.nested}
+        for citation in self.page.citations:
+            if id(citation) not in nested:
+                self._citation(citation)
+        self._list()
+
+    def _citation(self, citation: CitationOfPage) -> None:
+        written = self.page.written.get(id(citation))
+        if written is None:
+            # (what stands in the text may be a name of something else)
+            if self.page.text[citation.start] == '[':
+                self._edit(citation.start, citation.end, unknown(citation))
+        elif citation.note is None or citation.is_in_note:
+            behind = self.page.text[citation.end:self._paragraph(citation.start).end]
+            has_more = bool(behind.strip(' \t\n]'))
+            text = _in_line(self.writer, citation, written, has_more)
+            self._edit(citation.start, citation.end, text)
+        else:
+            self._put_note(citation, written)
+
+    def _paragraph(self, at: int) -> Paragraph:
+        """The paragraph of a place."""
+        return self.page.blocks.paragraphs[bisect_right(self.starts, at) - 1]
+
+    def _put_note(self, citation: CitationOfPage, written: Written) -> None:
+        """A citation in a note of its own, with no space before, and behind the punctuation that
+        follows it."""
+        start, end, text = citation.start, citation.end, self.page.text
+        names = self.writer.text(written.names)
+        if not text_of_runs(written.names):
+            before = text[self._paragraph(start).start:start]
+            spaces = re.search(r'[ \t]*(?:\n[ \t]*(?:>[ \t]?)*)?$', before)
+            start -= len(before) - spaces.start() if spaces and spaces.start() else 0
+        behind = re.compile(r'[.,;:!?]+').match(text, end)
+        marks = behind.group() if behind else ''
+        label = self._label(citation)
+        content = self.writer.text(written.rest)
+        if not content:
+            self._edit(start, end, names)
+            return
+        if written.begins_with_words:
+            content = capitalized(content)
+        self._edit(start, end + len(marks), f'{names}{marks}[^{label}]')
+        self._define(citation.note or 0, f'[^{label}]: {self.site.writer.begun(content)}\n')
+
+    def _define(self, number: int, definition: str) -> None:
+        """Defines a note: before the next one of the page's own, since some kinds of Markdown
+        number notes as they are defined, or else at the end."""
+        later = [own for own in self.page.own_notes if own > number]
+        if later:
+            at = self.page.own_notes[min(later)]
+            self._edit(at, at, f'{definition}\n')
+        else:
+            self.notes.append(definition)
+
+    def _label(self, citation: CitationOfPage) -> str:
+        """The label of a note: its number on the page, or one that the page doesn't have."""
+        label = str((citation.note or 1) - self.page.notes_before)
+        while label in self.labels:
+            label = f'cite-{label}'
+        self.labels.add(label)
+        return label
+
+    # The reference list
+
+    def _list(self) -> None:
+        bibliography = self.site.listed(self.page.name)
+        text = self.page.text
+        written = self.site.writer.reference_list(bibliography) if bibliography else ''
+        place = self._place()
+        notes = ''.join(f'\n{note}' for note in self.notes)
+        if place is not None and (written or self._is_marked(place)):
+            start, end = place
+            self._edit(start, end, _set_off(text, start, end, written))
+            written = ''
+        elif written and self.site.title is not None:
+            written = heading(self.site.title) + written
+        ends = (f'\n{notes}' if notes else '') + (f'\n\n{written}' if written else '')
+        if ends:
+            at = len(text.rstrip('\n'))
+            self._edit(at, len(text), ends.rstrip('\n') + '\n')
+
+    def _is_marked(self, place: Tuple[int, int]) -> bool:
+        return place[0] != place[1] and self.site.list_page is None
+
+    def _place(self) -> Optional[Tuple[int, int]]:
+        """Where the list stands: in place of the mark or of the `div` refs, or at the end of the
+        section of its heading; None where there is neither."""
+        if self.site.mark is not None:
+            line = re.compile(rf'^[ \t]*{re.escape(self.site.mark)}[ \t]*$', re.MULTILINE)
+            for found in line.finditer(self.page.text):
+                if any(paragraph.start <= found.end() and found.start() <= paragraph.end
+                       for paragraph in self.page.blocks.paragraphs):
+                    return found.span()
+        if self.page.blocks.references is not None:
+            return self.page.blocks.references
+        return self._below_heading()
+
+    def _below_heading(self) -> Optional[Tuple[int, int]]:
+        title = (self.site.title or TITLE).casefold()
+        headings = self.page.blocks.headings
+        for at in range(len(headings) - 1, -1, -1):
+            if headings[at].text.casefold() == title:
+                ends = [later.start for later in headings[at + 1:]
+                        if later.level <= headings[at].level]
+                place = ends[0] if ends else headings[at].end
+                return (place, place) if ends or self._is_last(place) else None
+        return None
+
+    def _is_last(self, at: int) -> bool:
+        """Whether nothing but white space and notes follows."""
+        return not any(paragraph.start >= at and paragraph.note is None
+                       for paragraph in self.page.blocks.paragraphs)
+
+    def _edit(self, start: int, end: int, text: str) -> None:
+        self.page.edits.append(_Edit(start, end, text))
+
+
+def _set_off(text: str, start: int, end: int, written: str) -> str:
+    """A list in place of a part of a page, between blank lines."""
+    before, after = text[:start], text[end:]
+    above = 0 if not before else 2 - (len(before) - len(before.rstrip('\n')))
+    below = 1 if not after.strip('\n') else 2
+    lines = min(len(after) - len(after.lstrip('\n')), below)
+    return '\n' * max(above, 0) + written.rstrip('\n') + '\n' * (below - lines)
+
+
+def _in_line(writer: CitationWriter, citation: CitationOfPage, written: Written,
+             has_more: bool) -> str:
+    """A citation in the line. In a note, the style's full stop is left out where more follows."""
+    rest = without_full_stop(written.rest) if citation.note is not None and has_more \
+        else written.rest
+    parts = [writer.text(written.names), writer.text(rest)]
+    return ' '.join(part for part in parts if part)
