@@ -40,11 +40,12 @@ def style(citation='', bibliography='', macros='', options='', class_='in-text',
 
 
 class Case:
-    """Texts of citations, or of items of a bibliography, in a style."""
+    """Texts of citations, or of items of a bibliography, in a style. `warns`: whether the references
+    are odd."""
 
-    def __init__(self, name, rule, style, references, wanted, citations=None, to='text'):
+    def __init__(self, name, rule, style, references, wanted, citations=None, to='text', warns=False):
         self.name, self.rule, self.style, self.references = name, rule, style, references
-        self.citations, self.wanted, self.to = citations, wanted, to
+        self.citations, self.wanted, self.to, self.warns = citations, wanted, to, warns
 
 
 def cite(name, rule, layout, references, wanted, citations=None, to='text', **how):
@@ -53,9 +54,9 @@ def cite(name, rule, layout, references, wanted, citations=None, to='text', **ho
     return Case(name, rule, style(layout, **how), references, wanted, asked, to)
 
 
-def item(name, rule, layout, references, wanted, to='text', **how):
+def item(name, rule, layout, references, wanted, to='text', warns=False, **how):
     """A case of a bibliography of all references."""
-    return Case(name, rule, style('', layout, **how), references, wanted, None, to)
+    return Case(name, rule, style('', layout, **how), references, wanted, None, to, warns)
 
 
 def names(inside='', outer='', more=''):
@@ -86,13 +87,13 @@ CASES = [
          '<group delimiter=" "><text variable="DOI"/><text variable="DOI" prefix="https://doi.org/"/></group>',
          [{**PAPER, 'DOI': 'http://dx.doi.org/10.1000/1<2'}],
          ['<a href="https://doi.org/10.1000/1%3C2">http://dx.doi.org/10.1000/1&lt;2</a> '
-          '<a href="https://doi.org/10.1000/1%3C2">https://doi.org/10.1000/1&lt;2</a>'], to='html'),
+          '<a href="https://doi.org/10.1000/1%3C2">https://doi.org/10.1000/1&lt;2</a>'], to='html', warns=True),
     item('identifiers', 'Links: PMID and PMCID', '<group delimiter=" "><text variable="PMID"/><text variable="PMCID"/></group>',
          [{**PAPER, 'PMID': '123', 'PMCID': 'PMC45'}],
          ['<a href="https://www.ncbi.nlm.nih.gov/pubmed/123">123</a> <a href="https://www.ncbi.nlm.nih.gov/pmc/articles/PMC45">PMC45</a>'],
          to='html'),
     *[item('no link: ' + url.replace(chr(1), ' '), 'docs/WRITER.md: links lead to http, https, mailto and doi alone', '<text variable="%s"/>' % variable,
-           [{**PAGE, 'URL': url, 'DOI': url}], [shown], to='html')
+           [{**PAGE, 'URL': url, 'DOI': url}], [shown], to='html', warns=variable == 'DOI')
       for variable, url, shown in (('URL', 'javascript:alert(1)', 'javascript:alert(1)'),
                                    ('URL', '\x01JavaScript:alert(1)', 'JavaScript:alert(1)'), ('URL', 'data:text/html,x', 'data:text/html,x'),
                                    ('URL', 'www.example.org', 'www.example.org'), ('DOI', 'http://evil/', 'http://evil/'))],

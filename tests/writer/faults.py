@@ -53,6 +53,9 @@ def ring():
     return STYLE.replace('<citation>', '<macro name="m"><text macro="m"/></macro>\n<citation>')
 
 
+TITLE = '<text variable="title"/>'
+
+
 def style_of(layout, *more):
     """A style that writes this, with these elements behind `info`; it lists its items in the order
     of their titles."""
@@ -173,9 +176,9 @@ FAULTS = [
     cited('references that are wrong before they nest too deep', 2, ["FILE/r.json:1:2: error: no JSON: `!` can't stand here: `[![[…"], r='[!' + DEEP),
     cited('references with brackets in a text', 2, ["FILE/r.json:2:1: error: no JSON: `}` can't stand here: `}`"],
           r='["\\"%s"\n}' % ('[' * 200)),
-    cited('references with one list behind the other', 2, ['FILE/r.json:1:602: error: no JSON: no comma stands before `}`: `[],[],[],[],[],[],[],[],[],[],}`'],
+    cited('references with one list behind the other', 2, ['FILE/r.json:1:602: error: no JSON: there is an extra comma before `}`: `[],[],[],[],[],[],[],[],[],[],}`'],
           r='[' + '[],' * 200 + '}'),
-    cited('a comma behind the last member', 2, ['FILE/r.json:1:13: error: no JSON: no comma stands before `}`: `[{"id": "a",}]`'],
+    cited('a comma behind the last member', 2, ['FILE/r.json:1:13: error: no JSON: there is an extra comma before `}`: `[{"id": "a",}]`'],
           r='[{"id": "a",}]'),
     cited('a quote missing at the end', 2, ['FILE/r.json:1:13: error: no JSON: no quote ends this text: `[{"id": "a}]`'], r='[{"id": "a}]'),
     cited('a list that is not closed', 2, ['FILE/r.json:2:1: error: no JSON: it ends before all that is open is closed: ``'],
@@ -183,10 +186,10 @@ FAULTS = [
     cited('no comma between items', 2,
           ['FILE/r.json:2:2: error: no JSON: a comma, a colon or a quote is missing before this: ` {"id": "b"}]`'],
           r='[{"id": "a"}\n {"id": "b"}]'),
-    cited('single quotes', 2, ["FILE/r.json:1:3: error: no JSON: double quotes stand around a text: `[{'id': 'a'}]`"], r="[{'id': 'a'}]"),
+    cited('single quotes', 2, ["FILE/r.json:1:3: error: no JSON: a text needs double quotes: `[{'id': 'a'}]`"], r="[{'id': 'a'}]"),
     cited('a key without a value', 2, ['FILE/r.json:1:8: error: no JSON: the key has no value: `[{"id":}]`'], r='[{"id":}]'),
     cited('a comment', 2, ['FILE/r.json:1:2: error: no JSON: there are no comments in JSON: `[// mine`'], r='[// mine\n]'),
-    cited('a word of another language', 2, ['FILE/r.json:1:9: error: no JSON: a word has no quotes: `[{"id": None}]`'],
+    cited('a word of another language', 2, ['FILE/r.json:1:9: error: no JSON: a text needs quotes: `[{"id": None}]`'],
           r='[{"id": None}]'),
     cited('a number that is too large', 2, ['FILE/r.json:1:9: error: no JSON: the number is too large: `[{"id": 1e400}]`'],
           r='[{"id": 1e400}]'),
@@ -269,13 +272,13 @@ FAULTS = [
               '<div id="%s" class="csl-entry"><div class="csl-left-margin">%s</div><div class="csl-right-inline">T</div></div>\n'
               % (anchor, title) for anchor, title in ODD_ANCHORS)))),
     Fault('citations and the bibliography', ['cite', '--with-bibliography', '--style', 'FILE/s.csl', 'FILE/r.json', 'FILE/c.json'], 0, [],
-          {'s.csl': style_of('')}, out='A\n\nA\n'),
+          {'s.csl': style_of(TITLE)}, out='A\n\nA\n'),
     Fault('citations and no bibliography', ['cite', '--with-bibliography', '--style', 'FILE/s.csl', 'FILE/r.json', 'FILE/c.json'], 0,
           ['gamhilon: warning: the style has no bibliography'], out='A\n'),
     Fault('a page of both', ['cite', '--with-bibliography', '--style', 'FILE/s.csl', '--standalone', 'FILE/r.json', 'FILE/c.json'], 0, [],
-          {'s.csl': style_of('')}, out=page('Citations', BOTH)),
+          {'s.csl': style_of(TITLE)}, out=page('Citations', BOTH)),
     Fault('HTML of both', ['cite', '--with-bibliography', '--style', 'FILE/s.csl', '--to', 'html', 'FILE/r.json', 'FILE/c.json'], 0, [],
-          {'s.csl': style_of('')}, out=BOTH),
+          {'s.csl': style_of(TITLE)}, out=BOTH),
     Fault('a page from right to left', ['cite', '--style', 'FILE/s.csl', '--locale', 'ar', '--locales', 'FILE', '--standalone', 'FILE/r.json',
                                         'FILE/c.json'], 0, [], {'locales-ar.xml': LOCALE.replace('de-DE', 'ar')},
           out=page('Citations', '<p class="citation">A</p>\n', 'ar', 'rtl')),

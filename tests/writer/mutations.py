@@ -63,9 +63,11 @@ def mutated_files(styles, references, citations, count, seed):
 
 
 def is_told(status, out, error):
-    """Whether an answer comes, with warnings at most, or one line tells why none does, behind the
-    warnings."""
+    """Whether an answer comes, with warnings at most, or one line says why none does, behind the
+    warnings; or a line for each cite of an item that isn't there."""
     lines = error.splitlines()
     if status == 0:
         return all(': warning: ' in line for line in lines)
-    return status in STATUSES and not out and bool(lines) and all(': warning: ' in line for line in lines[:-1])
+    causes = [line for line in lines if ': warning: ' not in line]
+    return (status in STATUSES and not out and bool(causes) and lines[len(lines) - len(causes):] == causes
+            and (len(causes) < 2 or all(': there is no item `' in line for line in causes)))

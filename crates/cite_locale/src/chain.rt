@@ -56,12 +56,16 @@ impl<'a> LocaleChain<'a> {
         })
     }
 
-    /// The locales of the language, and then those of English in its place.
-    pub(crate) fn by_language(&self) -> (&[IndexedLocale<'a>], &[IndexedLocale<'a>]) {
-        self.locales
-            .as_slice()
-            .split_at_checked(self.own)
-            .unwrap_or((self.locales.as_slice(), &[]))
+    /// The locales of the language.
+    pub(crate) fn own(&self) -> &[IndexedLocale<'a>] {
+        let locales = self.locales.as_slice();
+        locales.get(..self.own).unwrap_or(locales)
+    }
+
+    /// The locales of English in its place.
+    pub(crate) fn of_english(&self) -> &[IndexedLocale<'a>] {
+        let locales = self.locales.as_slice();
+        locales.get(self.own..).unwrap_or(locales)
     }
 
     /// The language of text cases.

@@ -29,8 +29,11 @@ impl<'a> LocaleChain<'a> {
     }
 
     fn find_in_forms(&self, name: TermName, form: TermForm) -> Option<&'a Term> {
-        let (own, english) = self.by_language();
-        find_in_forms(own, name, form).or_else(|| find_in_forms(english, name, form))
+        find_in_forms(self.own(), name, form).or_else(|| find_in_forms(
+            self.of_english(),
+            name,
+            form,
+        ))
     }
 
     /// The term of the first locale that has it.

@@ -119,11 +119,13 @@ fn references_with(
     ensures { IfErr result (λ e. IsErrorOf e (view value.now)) }
 {
     let mut reader = Reader::new(alloc, unkept)?;
-    let references = reader.whole(&Place::Whole, value)?;
-    Ok(ReadReferences {
-        references,
-        warnings: reader.warnings,
-    })
+    match reader.whole(&Place::Whole, value) {
+        Ok(references) => Ok(ReadReferences {
+            references,
+            warnings: reader.warnings,
+        }),
+        Err(error) => Err(error),
+    }
 }
 
 /// The JSON value that the bytes are.

@@ -45,14 +45,14 @@ impl fmt::Display for SyntaxFault {
                 f.write_str("no quote ends this text on its line, or it has a control character")
             }
             SyntaxFault::Escape => f.write_str("this text has a backslash that escapes nothing"),
-            SyntaxFault::SingleQuote => f.write_str("double quotes stand around a text"),
-            SyntaxFault::LastComma(c) => write!(f, "no comma stands before `{c}`"),
+            SyntaxFault::SingleQuote => f.write_str("a text needs double quotes"),
+            SyntaxFault::LastComma(c) => write!(f, "there is an extra comma before `{c}`"),
             SyntaxFault::NoValue => f.write_str("the key has no value"),
             SyntaxFault::NoComma => {
                 f.write_str("a comma, a colon or a quote is missing before this")
             },
             SyntaxFault::Comment => f.write_str("there are no comments in JSON"),
-            SyntaxFault::Word => f.write_str("a word has no quotes"),
+            SyntaxFault::Word => f.write_str("a text needs quotes"),
             SyntaxFault::Number => f.write_str("this is not how JSON writes a number"),
             SyntaxFault::Character(c) => write!(f, "`{c}` can't stand here"),
         }

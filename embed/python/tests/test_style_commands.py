@@ -149,7 +149,7 @@ def test_texts_that_differ_are_told_by_what_they_show(run, cites, written):
     """`et al.` from three authors: two citations of the sample have a work of five."""
     paths = written(old_csl=style(), new_csl=style(options=ET_AL))
     status, out, error = run('diff', *paths)
-    assert (status, error) == (10, 2 * NOTHING)
+    assert (status, error) == (11, 2 * NOTHING)
     assert out == (
         f'citations: 2 of {len(CASES)} differ\n  five authors\n'
         '    - (Dahl, Evans, Fontaine, Greco, Hall)\n    + (Dahl et al.)\n  four works\n'
@@ -169,7 +169,7 @@ def test_formats_and_the_order_of_the_list_differ(run, cites, written):
     status, out, _ = run('diff', *paths)
     lines = out.splitlines()
     # (all but an author alone, and a title that stands for one, as CSL suppresses it behind that)
-    assert status == 10 and lines[0] == f'citations: {len(CASES) - 2} of {len(CASES)} differ'
+    assert status == 11 and lines[0] == f'citations: {len(CASES) - 2} of {len(CASES)} differ'
     assert lines[1:4] == ['  one author', '    - (Adler The shape of rivers)',
                           '    + (Adler <b>The shape of rivers</b>)']
     assert f'bibliography: 0 of {len(WORKS)} differ' in lines and '  in another order' in lines
@@ -200,25 +200,25 @@ def test_fixtures_are_run(run, cites, written, text, outcome):
     path, = written(own_txt=text)
     status, out, _ = run('test', path)
     assert out.splitlines()[-1] == f'1 fixture: 1 {outcome}'
-    assert status == (10 if outcome == 'differ' else 0)
+    assert status == (11 if outcome == 'differ' else 0)
 
 
 def test_what_differs_is_shown_line_by_line(run, cites, written):
     path, = written(own_txt=fixture('(Doe)\n(Lee, Fox)', options=ET_AL,
                                     more=section('CITATION-ITEMS', CITED)))
-    assert run('test', path) == (10, f'{path}:\n  - (Doe)\n  + (Doe et al.)\n'
+    assert run('test', path) == (11, f'{path}:\n  - (Doe)\n  + (Doe et al.)\n'
                                      '1 fixture: 1 differ\n', '')
 
 
 def test_formats_may_be_left_out_of_account(run, cites, written):
     path, = written(own_txt=fixture('(First; Second & last)',
                                     layout='<text variable="title" font-style="italic"/>'))
-    assert [run('test', path)[0], run('test', '--text', path)[0]] == [10, 0]
+    assert [run('test', path)[0], run('test', '--text', path)[0]] == [11, 0]
 
 
 def test_a_style_may_stand_in_the_place_of_that_of_fixtures(run, cites, written):
     path, other = written(own_txt=fixture('(First; Second &#38; last)'), other_csl=style(TITLE))
-    assert [run('test', path)[0], run('test', path, '--style', other)[0]] == [10, 0]
+    assert [run('test', path)[0], run('test', path, '--style', other)[0]] == [11, 0]
 
 
 def test_folders_and_files_that_are_no_fixtures(run, stands_in, written, tmp_path):

@@ -16,7 +16,7 @@ from .markdown_writer import bibliography_to_markdown, to_markdown
 
 __all__ = ['DIFFERENT', 'SAMPLE_FORMS', 'diff_command', 'sample_command']
 
-DIFFERENT = 10
+DIFFERENT = 11
 """The exit status where texts aren't those that are asked for."""
 
 SAMPLE_FORMS = ('text', 'html', 'markdown', 'latex')
