@@ -127,7 +127,7 @@ REFUSED = {
     ),
     'a number that is too large': (
         layout('<names variable="author"><name ¦et-al-min="4294967296"/></names>'),
-        'found `4294967296`, wanted a whole number, 0 or more',
+        'found `4294967296`, wanted a whole number, 4294967295 or less',
     ),
     'a date as text': (layout('<text ¦variable="issued"/>'), 'found `issued`, wanted a text or number variable'),
     'a text as number': (layout('<number ¦variable="title"/>'), 'found `title`, wanted a number variable'),
