@@ -173,7 +173,8 @@ def tests_of(program):
         tests.append(('time: ' + name, time, program, name, small[name], large[name]))
     command = shutil.which('pandoc')
     if command:
-        tests += [('pandoc: ' + os.path.basename(it), as_pandoc, it, command) for it in paths]
+        tests += [('pandoc: ' + os.path.basename(it), as_pandoc, it, command) for it in paths
+                  if any(head.startswith('# pandoc') for head, _ in sections_of(it))]
     else:
         print('not installed, and left out: pandoc')
     return tests
