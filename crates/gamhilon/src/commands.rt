@@ -132,11 +132,11 @@ pub(crate) fn citations_in(
     }
 }
 
-fn print_document(
+fn print_document<'p>(
     rt: &(impl Files + Input + Print + Eprint + AllocGlobal),
-    options: &Options,
+    options: &'p Options,
     printed: Printed,
-    found: &FoundStyle,
+    found: &'p FoundStyle,
     references: &References,
     cited: &Cited,
 ) -> Result<(), CommandError> {

@@ -71,11 +71,12 @@ fn named_item(alloc: Global, whole: &Value, pointer: &Pointer) -> Result<String,
 
 /// The id of the item to which steps lead, or into which.
 fn id_at<'v>(whole: &'v Value, steps: &[Step]) -> Option<&'v Value> {
-    let (first, behind) = steps.split_first()?;
-    match first {
-        Step::Item(index) => whole.get(*index)?.get("id"),
-        Step::Key(key) if key.as_str() == "items" => id_at(whole.get("items")?, behind),
-        Step::Key(_) => None,
+    match steps {
+        [Step::Item(index), ..] => whole.get(*index)?.get("id"),
+        [Step::Key(key), Step::Item(index), ..] if key.as_str() == "items" => {
+            whole.get("items")?.get(*index)?.get("id")
+        }
+        _ => None,
     }
 }
 
