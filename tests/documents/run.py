@@ -638,7 +638,7 @@ PASSES = ['find_ambiguous_sets', *MARKING, 'group_cites', 'substitute_subsequent
 SWEPT_PASSES = {
     'disambiguation/suffix_by_entry': ['find_ambiguous_sets', 'disambiguate_names', 'disambiguate_year_suffix'],
     'disambiguation/added_names': ['find_ambiguous_sets', 'disambiguate_names', 'disambiguate_year_suffix'],
-    'disambiguation/choose': ['find_ambiguous_sets', *MARKING],
+    'disambiguation/choose': ['find_ambiguous_sets', 'disambiguate_names', 'disambiguate_with_choose'],
     'grouping/blocks': ['find_ambiguous_sets', 'group_cites'],
     'bibliography/author_substitution': ['find_ambiguous_sets', 'substitute_subsequent_authors'],
 }
