@@ -125,6 +125,9 @@ class Cases:
     def changed_items(self, random):
         """Items of CSL-JSON."""
         items = changes.of_value(random, random.sample(self.works, random.randrange(1, 6)))
+        if isinstance(items, str):
+            # (a text alone would be the path of a file)
+            items = [items]
         ids = [item['id'] for item in items if isinstance(item, dict) and 'id' in item] \
             if isinstance(items, list) else []
         self.rendered(random, items, [[{'id': key}] for key in ids])
@@ -137,8 +140,9 @@ class Cases:
         """Citations in a style, each of which has a text."""
         made = csl.render(random.choice(self.styles), items, citations,
                           locale=random.choice([None, None, 'de', 'xx']))
-        if len(made.citations) != len(citations):
-            raise Wrong(f'{len(made.citations)} citations of {len(citations)}')
+        count = 0 if citations is None else len(citations)
+        if len(made.citations) != count:
+            raise Wrong(f'{len(made.citations)} citations of {count}')
         for warned in made.warnings:
             str(warned)
         for citation in made.answer.citations:
