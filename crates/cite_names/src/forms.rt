@@ -1,5 +1,8 @@
 //! How far each name of a list is written.
-use crate::rules::NameRules;
+ghost use Rattle.std.specs.Prelude.{◌≡◌, Bool};
+ghost use Rattle.cite_names.specs.ShownNames.{AreShown, ends_in_last, kept_names};
+
+use crate::rules::{Cut, NameRules};
 use csl_base::names::DisambiguatedNameForm;
 use std::alloc::{AllocError, Global};
 use style_file::names::NameForm;
@@ -14,7 +17,7 @@ pub fn own_forms(
     rules: &NameRules<'_>,
     count: usize,
 ) -> Result<Vec<DisambiguatedNameForm>, AllocError> {
-    let kept = kept_names(rules, count);
+    let kept = kept_names(rules.cut, count);
     let form = form_of(rules);
     let mut forms = Vec::new(alloc);
     for place in 0..count {
@@ -28,9 +31,12 @@ pub fn own_forms(
     Ok(forms)
 }
 
-/// How many of the names stand before the cut.
-fn kept_names(rules: &NameRules<'_>, count: usize) -> usize {
-    match rules.cut {
+/// How many of so many names stand before the cut.
+fn kept_names(cut: Option<Cut>, count: usize) -> usize
+    ensures kept { result ≡ kept_names cut count }
+    ensures laws { (use_last : Bool) → AreShown cut use_last count }
+{
+    match cut {
         Some(cut) if count >= cut.min as usize => count.min(cut.use_first as usize),
         _ => count,
     }
@@ -68,4 +74,12 @@ pub fn written_names(forms: &[DisambiguatedNameForm]) -> usize {
         }
     }
     written
+}
+
+/// Whether behind so many names the last one stands, with a gap between: not where the last one is
+/// the next.
+pub fn ends_in_last(use_last: bool, written: usize, count: usize) -> bool
+    ensures { result ≡ ends_in_last use_last written count }
+{
+    use_last && written > 0 && count.saturating_sub(written) >= 2
 }

@@ -1,5 +1,5 @@
 //! Lists of names (CSL 1.0.2, "Name" and "Et-al").
-use crate::forms::{form_of, written_names};
+use crate::forms::{ends_in_last, form_of, written_names};
 use crate::parts::{PartRole, WrittenPart, may_be_inverted, parts_of};
 use crate::rules::NameRules;
 use crate::scripts::is_spaced;
@@ -112,7 +112,7 @@ impl<'s> NameList<'s, '_> {
         names: &[Name],
         written: usize,
     ) -> Result<(), AllocError> {
-        if self.rules.use_last && written.saturating_add(2) <= names.len() {
+        if ends_in_last(self.rules.use_last, written, names.len()) {
             return self.push_last(alloc, output, names);
         }
         if self.words.et_al.is_empty() {

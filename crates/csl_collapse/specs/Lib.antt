@@ -4,3 +4,5 @@ pub mod YearStretches
 pub mod Collapsed
 pub mod Steps
 pub mod NumberLaws
+pub mod YearLaws
+pub mod RunLaws

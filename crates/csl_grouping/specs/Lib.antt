@@ -5,3 +5,4 @@ pub mod Moves
 pub mod KeyLaws
 pub mod Laws
 pub mod FinalOrder
+pub mod BlockLaws
