@@ -56,9 +56,7 @@ extern "C" {
 /* A layout has more elements than gamhilon_check_limits was told. */
 #define GAMHILON_TOO_MANY_ELEMENTS 8u
 
-/* The cites can't be disambiguated: something was still missing after 10,000 calls of the driver.
- * Of gamhilon_cite alone. */
-#define GAMHILON_UNSETTLED 9u
+/* 9 was a status of earlier versions, and is not used again. */
 
 /* A text for people that tells what a status means. It has no line feed, ends with a NUL, and is
  * never freed. */
@@ -149,8 +147,8 @@ uint32_t gamhilon_render_json(const uint8_t *document, size_t document_length,
  * written for (`meta`) cites alone are told: each by its place in the citation that was handed in.
  *
  * Ends with GAMHILON_OK, GAMHILON_DOCUMENT_REFUSED, GAMHILON_NUMBER_OVERFLOW,
- * GAMHILON_OUT_OF_MEMORY, GAMHILON_BUFFER_TOO_SMALL or GAMHILON_UNSETTLED. That the text stands in
- * the buffer is proved, and not which text it is. */
+ * GAMHILON_OUT_OF_MEMORY or GAMHILON_BUFFER_TOO_SMALL. That the text stands in the buffer is
+ * proved, and not which text it is. */
 uint32_t gamhilon_cite(const uint8_t *style, size_t style_length,
                        const uint8_t *locales, size_t locales_length,
                        const uint8_t *items, size_t items_length,

@@ -7,5 +7,4 @@ use Rattle.cite_call.specs.declared.error.CallError.TheVariants as errors
 abbrev pub status : CallError → ℕ
 status (errors.Fault fault) = 2
 status errors.TooManyItems = 4
-status errors.Unsettled = 9
 status errors.OutOfMemory = 5

@@ -18,7 +18,7 @@ use std::alloc::Global;
 ///
 /// # Errors
 ///
-/// `Fault` where a text is wrong; `TooManyItems`; `Unsettled`; `OutOfMemory`.
+/// `Fault` where a text is wrong; `TooManyItems`; `OutOfMemory`.
 pub fn cite(alloc: Global, texts: CallTexts<'_>) -> Result<String, CallError> {
     let mut reader = TextReader::new(alloc);
     let document = reader.document(texts)?;

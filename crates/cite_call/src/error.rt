@@ -15,13 +15,11 @@ pub enum CallError {
     Fault(Fault),
     /// There are too many items to number them.
     TooManyItems,
-    /// The cites can't be disambiguated: what the driver asks for has no end.
-    Unsettled,
     OutOfMemory,
 }
 
 impl CallError {
-    /// The status that tells it: 2, 4, 9 or 5.
+    /// The status that tells it: 2, 4 or 5.
     pub fn status(&self) -> u8
         ensures { result ≡ status self.now }
     {
@@ -29,7 +27,6 @@ impl CallError {
             CallError::Fault(_) => 2,
             CallError::TooManyItems => 4,
             CallError::OutOfMemory => 5,
-            CallError::Unsettled => 9,
         }
     }
 }
@@ -60,7 +57,6 @@ pub(crate) fn answer_refusal(alloc: Global, error: AnswerError) -> CallError {
         AnswerError::NoReference { citation, id } => no_item(alloc, citation, id.as_str()),
         AnswerError::StyleTooLong => refusal(alloc, TextName::Style, TextPlace::Whole, &error),
         AnswerError::TooManyItems => CallError::TooManyItems,
-        AnswerError::Unsettled => CallError::Unsettled,
         AnswerError::OutOfMemory => CallError::OutOfMemory,
     }
 }
@@ -101,7 +97,6 @@ impl fmt::Display for CallError {
                 write!(f, "{remark}")
             }
             CallError::TooManyItems => f.write_str("there are too many items"),
-            CallError::Unsettled => f.write_str("the cites can't be disambiguated"),
             CallError::OutOfMemory => f.write_str("out of memory"),
         }
     }

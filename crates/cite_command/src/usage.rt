@@ -11,8 +11,7 @@ pub(crate) const PROGRAM_NOTES: &str = "\
 The exit status is 0 where there is an answer, 1 where a file can't be read or the answer can't be
 written, 2 where a file is wrong, 3 where macros of a document call each other in a ring, 4 where
 there are too many items, 5 where memory is refused, 7 where a layout of a document nests deeper
-than --depth, 8 where it has more elements than --elements, 9 where cites can't be told apart, and
-64 where the command line is wrong.
+than --depth, 8 where it has more elements than --elements, and 64 where the command line is wrong.
 
 Example: with the references of books.json, in a style that is built in,
 

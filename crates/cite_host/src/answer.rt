@@ -17,11 +17,10 @@ use cite_pieces::punctuation::punctuated;
 use cite_trees::streams::{cites_of, stream_of, stream_of_child};
 use csl_base::entry::PlainEntry;
 use csl_base::style::IndependentStyle;
+use csl_driver::error::DriverError;
 use csl_driver::rendered::{BibliographyItem, Rendered, RenderedBibliography, RenderedCitation};
-use csl_driver::request::BibliographyRequest;
 use csl_references::reference::References;
-use host_driver::drive::{Driven, drive_csl};
-use indexmap::IndexMap;
+use host_memo::memo::Memo;
 use std::alloc::{AllocError, Global};
 use style_file::style::{CslStyle, StyleClass};
 
@@ -56,17 +55,13 @@ pub struct ListedItem {
     pub content: Pieces,
 }
 
-/// How often the driver is asked at most.
-const MOST_CALLS: usize = 10_000;
-
 impl<'d> Document<'d> {
     /// The citations and the bibliography, written in the style.
     ///
     /// # Errors
     ///
     /// `NoReference` where an item is cited that isn't there; `StyleTooLong` where the macros of
-    /// the style make a layout too long; `TooManyItems`; `Unsettled` where the driver goes on
-    /// asking; `OutOfMemory`.
+    /// the style make a layout too long; `TooManyItems`; `OutOfMemory`.
     pub fn answer(&self, alloc: Global) -> Result<Answer, AnswerError> {
         let programs = Programs::of_style(alloc, self.style)?;
         let setting = Setting {
@@ -89,16 +84,8 @@ impl<'d> Document<'d> {
         citations: &[SortedCitation<'d>],
     ) -> Result<Rendered, AnswerError> {
         let style = driven_style(alloc, self.style, self.has_notes(setting))?;
-        let mut writer = TaskWriter {
-            alloc,
-            setting,
-            items,
-            citations,
-            lists_items: self.lists_items,
-            table: IndexMap::new(alloc),
-            plain_cites: IndexMap::new(alloc),
-        };
-        rendered_in(alloc, &style, items, &mut writer)
+        let writer = TaskWriter::new(alloc, setting, items, citations, self.lists_items);
+        rendered_in(alloc, &style, items, writer)
     }
 
     /// Whether the numbers of notes are told to the driver: the style asks where cites stand, and
@@ -228,7 +215,7 @@ fn rendered_in<'e>(
     alloc: Global,
     style: &'e IndependentStyle,
     items: &'e Items<'_>,
-    writer: &mut TaskWriter<'_, '_, '_>,
+    writer: TaskWriter<'_, '_, '_>,
 ) -> Result<Rendered, AnswerError> {
     let locators = locators_of(alloc, writer.citations)?;
     let driver = filled_driver(alloc, &*style, &*items, writer.citations, &locators)?;
@@ -236,34 +223,19 @@ fn rendered_in<'e>(
     for entry in &items.entries {
         order.push(entry)?;
     }
-    rendered_by(alloc, &driver, style, &order, writer)
+    rendered_by(&driver, style, &order, &mut Memo::new(alloc, writer))
 }
 
 /// What the driver answers, with the entries of the bibliography in this order.
 fn rendered_by<'e>(
-    alloc: Global,
     driver: &Driver<'e>,
     style: &IndependentStyle,
     order: &[&'e PlainEntry],
-    writer: &mut TaskWriter<'_, '_, '_>,
+    memo: &mut Memo<TaskWriter<'_, '_, '_>>,
 ) -> Result<Rendered, AnswerError> {
     let request = bibliography_request(style, order);
-    asked_often(alloc, driver, &request, writer)
-}
-
-/// Asks the driver, and writes what it lacks, until there is an answer.
-fn asked_often<'e>(
-    alloc: Global,
-    driver: &Driver<'e>,
-    request: &BibliographyRequest<'_, 'e, PlainEntry>,
-    writer: &mut TaskWriter<'_, '_, '_>,
-) -> Result<Rendered, AnswerError> {
-    for _ in 0..MOST_CALLS {
-        match drive_csl(alloc, driver, request, &writer.table) {
-            Ok(Driven::Answer(rendered, _account)) => return Ok(rendered),
-            Ok(Driven::Missing(missing)) => writer.fill(missing)?,
-            Err(error) => return Err(AnswerError::from(error)),
-        }
+    match driver.answer_csl_with(&request, memo) {
+        Ok((rendered, _account)) => Ok(rendered),
+        Err(error) => Err(AnswerError::from(DriverError::from(error))),
     }
-    Err(AnswerError::Unsettled)
 }

@@ -4,7 +4,7 @@ use cite_trees::trees::tree_formatting;
 use csl_base::element::InheritableNameOptions;
 use csl_base::formatting::StyleFormatting;
 use csl_base::style as driven;
-use host_table::host_style::named;
+use host_memo::host_style::named;
 use std::alloc::{AllocError, Global};
 use std::num::NonZeroI16;
 use style_file::formatting::Formatting;

@@ -13,8 +13,6 @@ pub enum AnswerError {
     StyleTooLong,
     /// There are too many items to number them.
     TooManyItems,
-    /// What the driver asks for has no end.
-    Unsettled,
     OutOfMemory,
 }
 
@@ -60,7 +58,6 @@ impl fmt::Display for AnswerError {
             }
             AnswerError::StyleTooLong => f.write_str("the macros of the style are too long"),
             AnswerError::TooManyItems => f.write_str("there are too many items"),
-            AnswerError::Unsettled => f.write_str("the cites can't be disambiguated"),
             AnswerError::OutOfMemory => f.write_str("out of memory"),
         }
     }

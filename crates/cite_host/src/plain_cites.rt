@@ -73,44 +73,14 @@ impl<'s, 'i, 'd> TaskWriter<'s, 'i, 'd> {
             None => false,
         }
     }
-
-    /// What was written of an equal cite, or what of that is shown.
-    pub(crate) fn known(
-        &self,
-        plain: &PlainCite,
-        is_shown: bool,
-    ) -> Result<Option<Cite>, AllocError> {
-        let Some(place) = self.plain_cites.get(plain) else {
-            return Ok(None);
-        };
-        match self.table.get_index(*place) {
-            Some((_, cite)) if is_shown => Ok(Some(shown(self.alloc, cite)?)),
-            Some((key, cite)) if key.place.is_none() => Ok(Some(copied(cite)?)),
-            _ => Ok(None),
-        }
-    }
 }
 
 /// What of a cite is shown.
-fn shown(alloc: Global, cite: &Cite) -> Result<Cite, AllocError> {
+pub(crate) fn shown(alloc: Global, cite: &Cite) -> Result<Cite, AllocError> {
     Ok(Cite {
         children: shown_of(alloc, &cite.children)?,
         checked_disambiguate: cite.checked_disambiguate,
         first_name: None,
-        identifier_usage: cite.identifier_usage,
-    })
-}
-
-/// A copy of a cite.
-fn copied(cite: &Cite) -> Result<Cite, AllocError> {
-    let first_name = match &cite.first_name {
-        Some(names) => Some(names.clone()?),
-        None => None,
-    };
-    Ok(Cite {
-        children: cite.children.clone()?,
-        checked_disambiguate: cite.checked_disambiguate,
-        first_name,
         identifier_usage: cite.identifier_usage,
     })
 }

@@ -6,7 +6,7 @@ use cite_walk::cite::{CiteFacts, Repetition};
 use csl_base::names::DisambiguatedNameForm;
 use csl_lookup::means::{Means, is_chosen, suffix_told};
 use csl_lookup::state::{CollapseVerdict, IbidState};
-use host_table::key::Standing;
+use host_memo::key::Standing;
 
 impl<'s, 'i, 'd> TaskWriter<'s, 'i, 'd> {
     /// What is known of a cite, if its item is there.

@@ -1,6 +1,6 @@
 //! What the driver asks for is written.
 use crate::entries::Items;
-use crate::plain_cites::PlainCite;
+use crate::plain_cites::{PlainCite, shown};
 use crate::setting::Setting;
 use crate::sorting::SortedCitation;
 use crate::wording::{author_alone, begins_sentence, with_affixes, with_capital_term};
@@ -19,9 +19,10 @@ use csl_base::seq::Seq;
 use csl_lookup::purpose::CitePurpose;
 use csl_lookup::state::{CollapseVerdict, IdentifierUsage};
 use csl_writers::cite as driver;
-use host_table::key::{Standing, TaskKey, TaskPart};
-use host_table::table::Table;
-use indexmap::{IndexMap, IndexSet};
+use host_memo::key::{Standing, TaskKey, TaskPart};
+use host_memo::source::Source;
+use host_memo::table::copied;
+use indexmap::IndexMap;
 use std::alloc::{AllocError, Global};
 use std::mem::replace;
 use style_file::sections::Layout;
@@ -35,11 +36,11 @@ pub(crate) struct TaskWriter<'s, 'i, 'd> {
     pub items: &'i Items<'d>,
     pub citations: &'i [SortedCitation<'d>],
     /// Whether the items of the bibliography are wanted.
-    pub lists_items: bool,
-    /// What is written.
-    pub table: Table,
-    /// Of plain cites, where in the table stands what is written of them.
-    pub plain_cites: IndexMap<PlainCite, usize>,
+    lists_items: bool,
+    /// What was written of plain cites that are compared.
+    compared_cites: IndexMap<PlainCite, driver::Cite>,
+    /// What was written of plain cites that are shown.
+    shown_cites: IndexMap<PlainCite, driver::Cite>,
 }
 
 /// What marks the first field of an item as a whole: the driver sets apart what is marked first.
@@ -57,24 +58,12 @@ pub(crate) struct Asked<'k> {
     pub verdict: Option<CollapseVerdict>,
 }
 
-impl<'s, 'i, 'd> TaskWriter<'s, 'i, 'd> {
-    /// Writes what is missing into the table.
-    ///
-    /// # Errors
-    ///
-    /// Where memory is refused.
-    pub fn fill(&mut self, missing: IndexSet<TaskKey>) -> Result<(), AllocError> {
-        for key in missing {
-            let cite = self.write(&key)?;
-            put(&mut self.table, key, cite)?;
-        }
-        Ok(())
-    }
+impl<'s, 'i, 'd> Source for TaskWriter<'s, 'i, 'd> {
+    type Error = AllocError;
 
-    /// Writes a task that is to stand behind all others of the table.
-    fn write(&mut self, key: &TaskKey) -> Result<driver::Cite, AllocError> {
+    fn write(&mut self, alloc: Global, key: &TaskKey) -> Result<driver::Cite, AllocError> {
         let Some(item) = self.items.place(key.entry.as_str()) else {
-            return Ok(nothing(self.alloc));
+            return Ok(nothing(alloc));
         };
         match &key.part {
             TaskPart::Cite(standing, purpose, verdict) => self.write_cite(Asked {
@@ -85,7 +74,28 @@ impl<'s, 'i, 'd> TaskWriter<'s, 'i, 'd> {
                 verdict: *verdict,
             }),
             TaskPart::Item(standing) if self.lists_items => self.write_item(item, standing),
-            TaskPart::Item(_) | TaskPart::Date(_) => Ok(nothing(self.alloc)),
+            TaskPart::Item(_) | TaskPart::Date(_) => Ok(nothing(alloc)),
+        }
+    }
+}
+
+impl<'s, 'i, 'd> TaskWriter<'s, 'i, 'd> {
+    /// A writer that hasn't written anything yet.
+    pub fn new(
+        alloc: Global,
+        setting: Setting<'s>,
+        items: &'i Items<'d>,
+        citations: &'i [SortedCitation<'d>],
+        lists_items: bool,
+    ) -> TaskWriter<'s, 'i, 'd> {
+        TaskWriter {
+            alloc,
+            setting,
+            items,
+            citations,
+            lists_items,
+            compared_cites: IndexMap::new(alloc),
+            shown_cites: IndexMap::new(alloc),
         }
     }
 
@@ -94,12 +104,41 @@ impl<'s, 'i, 'd> TaskWriter<'s, 'i, 'd> {
         let Some(plain) = self.plain_cite(asked)? else {
             return self.write_anew(asked);
         };
-        if let Some(cite) = self.known(&plain, asked.shown.is_some())? {
-            return Ok(cite);
+        if asked.shown.is_some() {
+            self.write_shown(asked, plain)
+        } else {
+            self.write_compared(asked, plain)
+        }
+    }
+
+    /// Writes a plain cite that is compared.
+    fn write_compared(
+        &mut self,
+        asked: Asked<'_>,
+        plain: PlainCite,
+    ) -> Result<driver::Cite, AllocError> {
+        if let Some(cite) = self.compared_cites.get(&plain) {
+            return copied(cite);
         }
         let cite = self.write_anew(asked)?;
-        let place = self.table.len();
-        self.plain_cites.insert(plain, place)?;
+        self.compared_cites.insert(plain, copied(&cite)?)?;
+        Ok(cite)
+    }
+
+    /// Writes a plain cite that is shown, by what was compared of it, if that was written.
+    fn write_shown(
+        &mut self,
+        asked: Asked<'_>,
+        plain: PlainCite,
+    ) -> Result<driver::Cite, AllocError> {
+        if let Some(cite) = self.shown_cites.get(&plain) {
+            return copied(cite);
+        }
+        let cite = match self.compared_cites.get(&plain) {
+            Some(cite) => shown(self.alloc, cite)?,
+            None => self.write_anew(asked)?,
+        };
+        self.shown_cites.insert(plain, copied(&cite)?)?;
         Ok(cite)
     }
 
@@ -233,12 +272,6 @@ impl<'s, 'i, 'd> TaskWriter<'s, 'i, 'd> {
             identifier_usage: usage,
         })
     }
-}
-
-/// Puts what was written into the table.
-fn put(table: &mut Table, key: TaskKey, cite: driver::Cite) -> Result<(), AllocError> {
-    table.insert(key, cite)?;
-    Ok(())
 }
 
 /// Leaves out what the driver is told of the parts of a cite: of one that is shown it asks nothing.

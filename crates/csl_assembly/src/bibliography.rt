@@ -74,11 +74,15 @@ fn tree_by_properties<T: EntryLike, P, W: CiteWriter<T, P>>(
 ) -> Result<Option<ElemChildren>, W::Error>
     ensures tree { let task = record (item_of (wanted_source (wanted_view wanted.entry.wanted.now))
         (item_view first.now)) { properties = properties_view properties.now } in
-        IfOk result (λ tree. tree ≡ (W.state writer.old).item task) }
+        IfOk result (λ tree. (way : W.Way) → W.agrees writer.new way
+        → tree ≡ (W.state writer.old way).item task) }
     ensures asked { let task = record (item_of (wanted_source (wanted_view wanted.entry.wanted.now))
         (item_view first.now)) { properties = properties_view properties.now } in
-        OnOk result (desk (W.state writer.new) counter.new
-        ≡ after (item_task task ∷ []) (desk (W.state writer.old) counter.old)) }
+        OnOk result ((way : W.Way) → W.agrees writer.new way
+        → desk (W.state writer.new way) counter.new
+        ≡ after (item_task task ∷ []) (desk (W.state writer.old way) counter.old)) }
+    ensures agreed { OnOk result ((way : W.Way) → W.agrees writer.new way
+        → W.agrees writer.old way) }
 {
     let task = ItemTask {
         source: wanted.source(),
@@ -99,12 +103,16 @@ pub(crate) fn item_by_properties<T: EntryLike, P, W: CiteWriter<T, P>>(
 ) -> Result<(ElemChildren, String), W::Error>
     ensures item { let task = record (item_of (wanted_source (wanted_view wanted.entry.wanted.now))
         (item_view first.now)) { properties = properties_view properties.now } in
-        IfOk result (λ item. (item.0, string_bytes item.1)
-        ≡ item_by (writing_of T.answers (W.state writer.old)) task) }
+        IfOk result (λ item. (way : W.Way) → W.agrees writer.new way
+        → (item.0, string_bytes item.1)
+        ≡ item_by (writing_of T.answers (W.state writer.old way)) task) }
     ensures asked { let task = record (item_of (wanted_source (wanted_view wanted.entry.wanted.now))
         (item_view first.now)) { properties = properties_view properties.now } in
-        OnOk result (desk (W.state writer.new) counter.new
-        ≡ after (item_task task ∷ []) (desk (W.state writer.old) counter.old)) }
+        OnOk result ((way : W.Way) → W.agrees writer.new way
+        → desk (W.state writer.new way) counter.new
+        ≡ after (item_task task ∷ []) (desk (W.state writer.old way) counter.old)) }
+    ensures agreed { OnOk result ((way : W.Way) → W.agrees writer.new way
+        → W.agrees writer.old way) }
 {
     let text = tree_by_properties(alloc, wanted, first, properties, writer, counter)?;
     let mut content = text.unwrap_or(ElemChildren::new(alloc));
@@ -120,13 +128,16 @@ fn written_item<T: EntryLike, P: Drop, W: CiteWriter<T, P>>(
     writer: &mut W,
     counter: &mut Renders,
 ) -> Result<(ElemChildren, String), W::Error>
-    ensures item { IfOk result (λ item. (item.0, string_bytes item.1)
-        ≡ written_item (writing_of T.answers (W.state writer.old))
+    ensures item { IfOk result (λ item. (way : W.Way) → W.agrees writer.new way
+        → (item.0, string_bytes item.1)
+        ≡ written_item (writing_of T.answers (W.state writer.old way))
         (wanted_source (wanted_view wanted.entry.wanted.now)) (item_view first.now)) }
-    ensures asked { OnOk result (desk (W.state writer.new) counter.new
+    ensures asked { OnOk result ((way : W.Way) → W.agrees writer.new way
+        → desk (W.state writer.new way) counter.new
         ≡ after (item_task (item_of (wanted_source (wanted_view wanted.entry.wanted.now))
-        (item_view first.now)) ∷ [])
-        (desk (W.state writer.old) counter.old)) }
+        (item_view first.now)) ∷ []) (desk (W.state writer.old way) counter.old)) }
+    ensures agreed { OnOk result ((way : W.Way) → W.agrees writer.new way
+        → W.agrees writer.old way) }
 {
     let properties = unlocated(first)?;
     item_by_properties(alloc, wanted, first, &properties, writer, counter)
@@ -154,13 +165,18 @@ fn written_items<T: EntryLike, P: Drop, W: CiteWriter<T, P>>(
     writer: &mut W,
     counter: &mut Renders,
 ) -> Result<Vec<(ElemChildren, String)>, W::Error>
-    ensures items { IfOk result (λ made. rendered_items_view made.items
-        ≡ map (written_item (writing_of T.answers (W.state writer.old))
+    ensures items { IfOk result (λ made. (way : W.Way) → W.agrees writer.new way
+        → rendered_items_view made.items
+        ≡ map (written_item (writing_of T.answers (W.state writer.old way))
         (wanted_source (wanted_view wanted.entry.wanted.now)))
         (cites_at (renders_view cites.now) firsts.now)) }
-    ensures asked { OnOk result (desk (W.state writer.new) counter.new
+    ensures asked { OnOk result ((way : W.Way) → W.agrees writer.new way
+        → desk (W.state writer.new way) counter.new
         ≡ after (bibliography_tasks (wanted_source (wanted_view wanted.entry.wanted.now))
-        (cites_at (renders_view cites.now) firsts.now)) (desk (W.state writer.old) counter.old)) }
+        (cites_at (renders_view cites.now) firsts.now))
+        (desk (W.state writer.old way) counter.old)) }
+    ensures agreed { OnOk result ((way : W.Way) → W.agrees writer.new way
+        → W.agrees writer.old way) }
 {
     let mut items = Vec::with_capacity(alloc, firsts.len())?;
     for place in firsts {
@@ -254,13 +270,18 @@ pub fn bibliography_of<T: EntryLike, P: Drop, W: CiteWriter<T, P>>(
     writer: &mut W,
     counter: &mut Renders,
 ) -> Result<RenderedBibliography, W::Error>
-    ensures bibliography { IfOk result (λ r. r
-        ≡ bibliography_of (writing_of T.answers (W.state writer.old))
+    ensures bibliography { IfOk result (λ r. (way : W.Way) → W.agrees writer.new way
+        → r
+        ≡ bibliography_of (writing_of T.answers (W.state writer.old way))
         (wanted_source (wanted_view wanted.entry.wanted.now)) (bibliography_view bibliography.now)
         (cites_at (renders_view cites.now) firsts.now)) }
-    ensures asked { OnOk result (desk (W.state writer.new) counter.new
+    ensures asked { OnOk result ((way : W.Way) → W.agrees writer.new way
+        → desk (W.state writer.new way) counter.new
         ≡ after (bibliography_tasks (wanted_source (wanted_view wanted.entry.wanted.now))
-        (cites_at (renders_view cites.now) firsts.now)) (desk (W.state writer.old) counter.old)) }
+        (cites_at (renders_view cites.now) firsts.now))
+        (desk (W.state writer.old way) counter.old)) }
+    ensures agreed { OnOk result ((way : W.Way) → W.agrees writer.new way
+        → W.agrees writer.old way) }
 {
     let mut items = written_items(alloc, wanted, cites, firsts, writer, counter)?;
     let substitute = bibliography.subsequent_author_substitute.as_deref();

@@ -86,13 +86,17 @@ fn item_by_means<T: EntryLike, P: Drop, W: CiteWriter<T, P>>(
     counter: &mut Renders,
 ) -> Result<(ElemChildren, String), W::Error>
     ensures item { let source = wanted_source (wanted_view wanted.entry.wanted.now) in
-        IfOk result (λ item. (item.0, string_bytes item.1)
-        ≡ item_by (writing_of T.answers (W.state writer.old))
+        IfOk result (λ item. (way : W.Way) → W.agrees writer.new way
+        → (item.0, string_bytes item.1)
+        ≡ item_by (writing_of T.answers (W.state writer.old way))
         (task_by source (item_view first.now, means))) }
     ensures asked { let source = wanted_source (wanted_view wanted.entry.wanted.now) in
-        OnOk result (desk (W.state writer.new) counter.new
+        OnOk result ((way : W.Way) → W.agrees writer.new way
+        → desk (W.state writer.new way) counter.new
         ≡ after (item_task (task_by source (item_view first.now, means)) ∷ [])
-        (desk (W.state writer.old) counter.old)) }
+        (desk (W.state writer.old way) counter.old)) }
+    ensures agreed { OnOk result ((way : W.Way) → W.agrees writer.new way
+        → W.agrees writer.old way) }
 {
     let properties = properties_by(first, means);
     item_by_properties(alloc, wanted, first, &properties, writer, counter)
@@ -110,14 +114,18 @@ fn items_by_means<T: EntryLike, P: Drop, W: CiteWriter<T, P>>(
 ) -> Result<Vec<(ElemChildren, String)>, W::Error>
     requires { length means.now ≡ length firsts.now }
     ensures items { let source = wanted_source (wanted_view wanted.entry.wanted.now) in
-        IfOk result (λ made. rendered_items_view made.items
-        ≡ map (λ p. item_by (writing_of T.answers (W.state writer.old)) (task_by source p))
+        IfOk result (λ made. (way : W.Way) → W.agrees writer.new way
+        → rendered_items_view made.items
+        ≡ map (λ p. item_by (writing_of T.answers (W.state writer.old way)) (task_by source p))
         (cites_with_means (renders_view cites.now) firsts.now means.now)) }
     ensures asked { let source = wanted_source (wanted_view wanted.entry.wanted.now) in
-        OnOk result (desk (W.state writer.new) counter.new
+        OnOk result ((way : W.Way) → W.agrees writer.new way
+        → desk (W.state writer.new way) counter.new
         ≡ after (tasks_by_means source
         (cites_with_means (renders_view cites.now) firsts.now means.now))
-        (desk (W.state writer.old) counter.old)) }
+        (desk (W.state writer.old way) counter.old)) }
+    ensures agreed { OnOk result ((way : W.Way) → W.agrees writer.new way
+        → W.agrees writer.old way) }
 {
     let mut items = Vec::with_capacity(alloc, firsts.len())?;
     for (k, place) in firsts.iter().enumerate() {
@@ -151,14 +159,18 @@ pub fn bibliography_by_means<T: EntryLike, P: Drop, W: CiteWriter<T, P>>(
 ) -> Result<RenderedBibliography, W::Error>
     requires { length means.now ≡ length firsts.now }
     ensures bibliography { let source = wanted_source (wanted_view wanted.entry.wanted.now) in
-        IfOk result (λ r. r ≡ bibliography_by_means (writing_of T.answers (W.state writer.old))
+        IfOk result (λ r. (way : W.Way) → W.agrees writer.new way
+        → r ≡ bibliography_by_means (writing_of T.answers (W.state writer.old way))
         source (bibliography_view bibliography.now)
         (cites_with_means (renders_view cites.now) firsts.now means.now)) }
     ensures asked { let source = wanted_source (wanted_view wanted.entry.wanted.now) in
-        OnOk result (desk (W.state writer.new) counter.new
+        OnOk result ((way : W.Way) → W.agrees writer.new way
+        → desk (W.state writer.new way) counter.new
         ≡ after (tasks_by_means source
         (cites_with_means (renders_view cites.now) firsts.now means.now))
-        (desk (W.state writer.old) counter.old)) }
+        (desk (W.state writer.old way) counter.old)) }
+    ensures agreed { OnOk result ((way : W.Way) → W.agrees writer.new way
+        → W.agrees writer.old way) }
 {
     let mut items = items_by_means(alloc, wanted, cites, firsts, means, writer, counter)?;
     let substitute = bibliography.subsequent_author_substitute.as_deref();

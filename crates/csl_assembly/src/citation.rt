@@ -56,12 +56,16 @@ fn marked_cite<T: EntryLike, P: Drop, W: CiteWriter<T, P>>(
 ) -> Result<ElemChildren, W::Error>
     ensures tree { let task = last_task (source_of (request_view request.entry.request.now))
         (last_place_of index (item_view item.now)) (item_view item.now) in
-        IfOk result (λ tree. tree ≡ marked_cite (item_view item.now)
-        (tree_by_purpose (writing_of T.answers (W.state writer.old)) task)) }
+        IfOk result (λ tree. (way : W.Way) → W.agrees writer.new way
+        → tree ≡ marked_cite (item_view item.now)
+        (tree_by_purpose (writing_of T.answers (W.state writer.old way)) task)) }
     ensures asked { let task = last_task (source_of (request_view request.entry.request.now))
         (last_place_of index (item_view item.now)) (item_view item.now) in
-        OnOk result (desk (W.state writer.new) counter.new
-        ≡ after (task_by_purpose task ∷ []) (desk (W.state writer.old) counter.old)) }
+        OnOk result ((way : W.Way) → W.agrees writer.new way
+        → desk (W.state writer.new way) counter.new
+        ≡ after (task_by_purpose task ∷ []) (desk (W.state writer.old way) counter.old)) }
+    ensures agreed { OnOk result ((way : W.Way) → W.agrees writer.new way
+        → W.agrees writer.old way) }
 {
     let own = item.cite_props.certain.initial_idx;
     let cite = Elem {
@@ -84,15 +88,19 @@ pub(crate) fn shown_cites<'a, T: EntryLike, P: Drop, W: CiteWriter<T, P>>(
     counter: &mut Renders,
 ) -> Result<Vec<ShownCite<'a>>, W::Error>
     ensures cites { let request = request_view request.entry.request.now in
-        IfOk result (λ cites. shown_views cites.items
-        ≡ map (shown_cite (writing_of T.answers (W.state writer.old)) index (source_of request)
+        IfOk result (λ cites. (way : W.Way) → W.agrees writer.new way
+        → shown_views cites.items
+        ≡ map (shown_cite (writing_of T.answers (W.state writer.old way)) index (source_of request)
         request.style.citation.layout) (shown (items_view items.now))) }
     ensures asked { let cites : CiteRender T P = record {
       items = items_view items.now;
       request = request_view request.entry.request.now;
     } in
-        OnOk result (desk (W.state writer.new) counter.new
-        ≡ after (citation_tasks index cites) (desk (W.state writer.old) counter.old)) }
+        OnOk result ((way : W.Way) → W.agrees writer.new way
+        → desk (W.state writer.new way) counter.new
+        ≡ after (citation_tasks index cites) (desk (W.state writer.old way) counter.old)) }
+    ensures agreed { OnOk result ((way : W.Way) → W.agrees writer.new way
+        → W.agrees writer.old way) }
 {
     let layout = &request.request.style().citation.layout;
     let mut cites = Vec::with_capacity(alloc, items.len())?;
@@ -126,14 +134,18 @@ pub fn citation_tree<'a, T: EntryLike, P: Drop, W: CiteWriter<T, P>>(
       items = items_view items.now;
       request = request_view request.entry.request.now;
     } in
-        IfOk result (λ tree. tree
-        ≡ citation_tree (writing_of T.answers (W.state writer.old)) index cites) }
+        IfOk result (λ tree. (way : W.Way) → W.agrees writer.new way
+        → tree
+        ≡ citation_tree (writing_of T.answers (W.state writer.old way)) index cites) }
     ensures asked { let cites : CiteRender T P = record {
       items = items_view items.now;
       request = request_view request.entry.request.now;
     } in
-        OnOk result (desk (W.state writer.new) counter.new
-        ≡ after (citation_tasks index cites) (desk (W.state writer.old) counter.old)) }
+        OnOk result ((way : W.Way) → W.agrees writer.new way
+        → desk (W.state writer.new way) counter.new
+        ≡ after (citation_tasks index cites) (desk (W.state writer.old way) counter.old)) }
+    ensures agreed { OnOk result ((way : W.Way) → W.agrees writer.new way
+        → W.agrees writer.old way) }
 {
     let cites = shown_cites(alloc, request, index, items, writer, counter)?;
     let layout = &request.request.style().citation.layout;

@@ -37,11 +37,16 @@ pub fn tree_by_purpose<T: EntryLike, P, W: CiteWriter<T, P>>(
     writer: &mut W,
     counter: &mut Renders,
 ) -> Result<ElemChildren, W::Error>
-    ensures tree { IfOk result (λ tree. tree
-        ≡ tree_by_purpose (writing_of T.answers (W.state writer.old)) (cite_task_view task.entry)) }
-    ensures asked { OnOk result (desk (W.state writer.new) counter.new
+    ensures tree { IfOk result (λ tree. (way : W.Way) → W.agrees writer.new way
+        → tree
+        ≡ tree_by_purpose (writing_of T.answers (W.state writer.old way))
+        (cite_task_view task.entry)) }
+    ensures asked { OnOk result ((way : W.Way) → W.agrees writer.new way
+        → desk (W.state writer.new way) counter.new
         ≡ after (task_by_purpose (cite_task_view task.entry) ∷ [])
-        (desk (W.state writer.old) counter.old)) }
+        (desk (W.state writer.old way) counter.old)) }
+    ensures agreed { OnOk result ((way : W.Way) → W.agrees writer.new way
+        → W.agrees writer.old way) }
 {
     match task.purpose {
         Some(CitePurpose::Year) => {
@@ -73,14 +78,18 @@ pub fn last_tree<T: EntryLike, P: Drop, W: CiteWriter<T, P>>(
     writer: &mut W,
     counter: &mut Renders,
 ) -> Result<ElemChildren, W::Error>
-    ensures tree { IfOk result (λ tree. tree
-        ≡ tree_by_purpose (writing_of T.answers (W.state writer.old))
+    ensures tree { IfOk result (λ tree. (way : W.Way) → W.agrees writer.new way
+        → tree
+        ≡ tree_by_purpose (writing_of T.answers (W.state writer.old way))
         (last_task (source_of (request_view request.entry.request.now)) (Some place)
         (item_view item.now))) }
-    ensures asked { OnOk result (desk (W.state writer.new) counter.new
+    ensures asked { OnOk result ((way : W.Way) → W.agrees writer.new way
+        → desk (W.state writer.new way) counter.new
         ≡ after (task_by_purpose
         (last_task (source_of (request_view request.entry.request.now)) (Some place)
-        (item_view item.now)) ∷ []) (desk (W.state writer.old) counter.old)) }
+        (item_view item.now)) ∷ []) (desk (W.state writer.old way) counter.old)) }
+    ensures agreed { OnOk result ((way : W.Way) → W.agrees writer.new way
+        → W.agrees writer.old way) }
 {
     let properties = last_properties(item)?;
     tree_by_properties(alloc, request, place, item, &properties, writer, counter)
@@ -99,13 +108,17 @@ fn tree_by_properties<T: EntryLike, P, W: CiteWriter<T, P>>(
 ) -> Result<ElemChildren, W::Error>
     ensures tree { let task = record (last_task (source_of (request_view request.entry.request.now))
         (Some place) (item_view item.now)) { properties = properties_view properties.now } in
-        IfOk result (λ tree. tree
-        ≡ tree_by_purpose (writing_of T.answers (W.state writer.old)) task) }
+        IfOk result (λ tree. (way : W.Way) → W.agrees writer.new way
+        → tree
+        ≡ tree_by_purpose (writing_of T.answers (W.state writer.old way)) task) }
     ensures asked { let task =
         record (last_task (source_of (request_view request.entry.request.now))
         (Some place) (item_view item.now)) { properties = properties_view properties.now } in
-        OnOk result (desk (W.state writer.new) counter.new
-        ≡ after (task_by_purpose task ∷ []) (desk (W.state writer.old) counter.old)) }
+        OnOk result ((way : W.Way) → W.agrees writer.new way
+        → desk (W.state writer.new way) counter.new
+        ≡ after (task_by_purpose task ∷ []) (desk (W.state writer.old way) counter.old)) }
+    ensures agreed { OnOk result ((way : W.Way) → W.agrees writer.new way
+        → W.agrees writer.old way) }
 {
     let task = CiteTask {
         source: request.source(),

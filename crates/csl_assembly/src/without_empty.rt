@@ -52,14 +52,18 @@ pub fn citation_without_empty<'a, T: EntryLike, P: Drop, W: CiteWriter<T, P>>(
       items = items_view items.now;
       request = request_view request.entry.request.now;
     } in
-        IfOk result (λ tree. tree
-        ≡ citation_without_empty (writing_of T.answers (W.state writer.old)) index cites) }
+        IfOk result (λ tree. (way : W.Way) → W.agrees writer.new way
+        → tree
+        ≡ citation_without_empty (writing_of T.answers (W.state writer.old way)) index cites) }
     ensures asked { let cites : CiteRender T P = record {
       items = items_view items.now;
       request = request_view request.entry.request.now;
     } in
-        OnOk result (desk (W.state writer.new) counter.new
-        ≡ after (citation_tasks index cites) (desk (W.state writer.old) counter.old)) }
+        OnOk result ((way : W.Way) → W.agrees writer.new way
+        → desk (W.state writer.new way) counter.new
+        ≡ after (citation_tasks index cites) (desk (W.state writer.old way) counter.old)) }
+    ensures agreed { OnOk result ((way : W.Way) → W.agrees writer.new way
+        → W.agrees writer.old way) }
 {
     let mut cites = shown_cites(alloc, request, index, items, writer, counter)?;
     remove_empty(&mut cites);

@@ -1,5 +1,7 @@
 -- Writers that write and note as others.
-use Rattle.std.proofs.Common.{◌≡◌, ℕ, List, ap}
+use Rattle.std.proofs.Common.{◌≡◌, ℕ, List, OnOk, ap}
+use Rattle.std.specs.declared.result.Result.{Result}
+use Rattle.std.specs.declared.result.Result.TheVariants.{Ok, Err}
 use Rattle.csl_writers.specs.Desk.{Desk, after, desk}
 use Rattle.csl_writers.specs.Tasks.{TaskValue}
 use Rattle.csl_writers.specs.Writing.{WriterState}
@@ -14,3 +16,11 @@ module _ {E P N : Type 0} where
     date = ap (λ (d : Desk E P N). d.writer.date) asked;
     noting = ap (λ (d : Desk E P N). d.writer.noting) asked;
   }
+
+-- where it was asked, in each way with which it agrees then
+module _ {E P N T F Way : Type 0} (before now : Way → Type 0) (w v : Way → WriterState E P N) (n m : ℕ) (tasks : List (TaskValue E P)) where
+  pub goes_on_where_ok : (r : Result T F) → OnOk r ((way : Way) → now way → before way)
+      → OnOk r ((way : Way) → now way → desk (v way) m ≡ after tasks (desk (w way) n))
+      → OnOk r ((way : Way) → now way → before way × WritesOn (w way) (v way))
+  goes_on_where_ok (Ok x) agreed asked = λ way ok. (agreed way ok, writes-on-after tasks (w way) (v way) n m (asked way ok))
+  goes_on_where_ok (Err y) agreed asked = tt

@@ -35,11 +35,15 @@ fn written_by<T: EntryLike, P, W: CiteWriter<T, P>>(
     writer: &mut W,
     counter: &mut Renders,
 ) -> Result<WrittenMention<KeptOfMention>, W::Error>
-    ensures written { IfOk result (λ w. w ≡ written_mention ((W.state writer.old).cite
+    ensures written { IfOk result (λ w. (way : W.Way) → W.agrees writer.new way
+        → w ≡ written_mention ((W.state writer.old way).cite
         (with_properties mention.now (properties_view properties.now)))) }
-    ensures asked { OnOk result (desk (W.state writer.new) counter.new
+    ensures asked { OnOk result ((way : W.Way) → W.agrees writer.new way
+        → desk (W.state writer.new way) counter.new
         ≡ after (cite_task (with_properties mention.now (properties_view properties.now)) ∷ [])
-        (desk (W.state writer.old) counter.old)) }
+        (desk (W.state writer.old way) counter.old)) }
+    ensures agreed { OnOk result ((way : W.Way) → W.agrees writer.new way
+        → W.agrees writer.old way) }
 {
     let task = CiteTask {
         source: mention.source,
@@ -64,13 +68,23 @@ impl<'t, 'p, T: EntryLike, P: Drop, W: CiteWriter<T, P>> WrittenBy<W, Renders>
 
     type Notes = Noted<W::Note>;
 
-    ghost writing = { λ w n. cited (W.state w) n };
+    ghost Way = { W.Way };
 
-    ghost goes_on = { λ w v. WritesOn (W.state w) (W.state v) };
+    ghost agrees = { λ w way. W.agrees w way };
 
-    ghost stays = { λ w. writes-on-itself (W.state w) };
+    ghost writing = { λ w n way. cited (W.state w way) n };
 
-    ghost follows = { λ u v w first second. writes-on-further first second };
+    ghost goes_on = { λ w v. (way : W.Way) → W.agrees v way
+        → W.agrees w way × WritesOn (W.state w way) (W.state v way) };
+
+    ghost stays = { λ w way ok. (ok, writes-on-itself (W.state w way)) };
+
+    ghost follows = { λ u v w first second way ok. (
+      (first way (second way ok).0).0,
+      writes-on-further (first way (second way ok).0).1 (second way ok).1,
+    ) };
+
+    ghost agreed_before = { λ u v way on ok. (on way ok).0 };
 
     fn write_first(
         &self,
@@ -95,4 +109,6 @@ impl<'t, 'p, T: EntryLike, P: Drop, W: CiteWriter<T, P>> WrittenBy<W, Renders>
         let properties = with_means(self.properties, told, first.usage)?;
         written_by(alloc, self, &properties, writer, counter)
     }
+
+    ghost some_way = { λ w. W.some_way w };
 }

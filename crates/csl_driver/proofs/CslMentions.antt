@@ -63,24 +63,29 @@ module _ {E P N : Type 0} (w : WriterState E P N) (n : ℕ) where
         ∙ ap (λ ts. noted_all (cites w n).noting ts (cites w n).notes) same ∙ noted-tasks tasks (cites w n).notes in
         λ i. desk (record { cite = on.cite i; item = on.item i; date = on.date i; noting = on.noting i; notes = (noted i).notes }) (noted i).count
 
--- the mentions of a job, told apart by a writer
-module _ {E P N X : Type 0} (answers : E → Answers) (eq : E → E → Bool) (job : Job E P) (w : WriterState E P N) (n : ℕ) (ss : List (Subject (CiteMention E P)))
+-- the mentions of a job, told apart by a writer, in each way with which it agrees then
+module _ {E P N X Way : Type 0} (answers : E → Answers) (eq : E → E → Bool) (job : Job E P) (w : Way → WriterState E P N) (now : Way → Type 0) (n : ℕ) (ss : List (Subject (CiteMention E P)))
     (are : map plain ss ≡ mentions eq job) where
-  pub told-apart : (result : Result (Told KeptOfMention) X) → IfOk result (λ t. t.states.items ≡ third_table (reading (cited w n)) ss)
-      → IfOk result (λ t. t.suffixes.items ≡ year_suffixes (reading (cited w n)) ss) → IfOk result (λ t. t.texts.items ≡ texts_told (reading (cited w n)) ss)
-      → IfOk result (λ t. t.firsts.items ≡ kept_at_first (keeping (cited w n)) ss)
-      → IfOk result (λ t. t.again.items ≡ kept_again (keeping (cited w n)) ss (third_table (reading (cited w n)) ss))
-      → IfOk result (AreToldApart eq job (writing_of answers w))
-  told-apart (Ok t) states suffixes texts firsts again =
+  pub told-apart : (result : Result (Told KeptOfMention) X) → IfOk result (λ t. (way : Way) → now way → t.states.items ≡ third_table (reading (cited (w way) n)) ss)
+      → IfOk result (λ t. (way : Way) → now way → t.suffixes.items ≡ year_suffixes (reading (cited (w way) n)) ss)
+      → IfOk result (λ t. (way : Way) → now way → t.texts.items ≡ texts_told (reading (cited (w way) n)) ss)
+      → IfOk result (λ t. (way : Way) → now way → t.firsts.items ≡ kept_at_first (keeping (cited (w way) n)) ss)
+      → IfOk result (λ t. (way : Way) → now way → t.again.items ≡ kept_again (keeping (cited (w way) n)) ss (third_table (reading (cited (w way) n)) ss))
+      → IfOk result (λ t. (way : Way) → now way → AreToldApart eq job (writing_of answers (w way)) t)
+  told-apart (Ok t) states suffixes texts firsts again = λ way ok.
+      let v = w way in
       record {
-        states = states ∙ told-states w n ss ∙ ap (third_table (reading_of w.cite)) are;
-        suffixes = suffixes ∙ told-suffixes w n ss ∙ ap (year_suffixes (reading_of w.cite)) are;
-        mentions = (λ i. told_mentions (firsts i) (again i) (texts i)) ∙ told-mentions w n ss
-            ∙ ap (λ ts. told_mentions (kept_at_first (keeping_of w.cite) ts) (kept_again (keeping_of w.cite) ts (third_table (reading_of w.cite) ts)) (texts_told (reading_of w.cite) ts)) are;
+        states = states way ok ∙ told-states v n ss ∙ ap (third_table (reading_of v.cite)) are;
+        suffixes = suffixes way ok ∙ told-suffixes v n ss ∙ ap (year_suffixes (reading_of v.cite)) are;
+        mentions = (λ i. told_mentions (firsts way ok i) (again way ok i) (texts way ok i)) ∙ told-mentions v n ss
+            ∙ ap (λ ts. told_mentions (kept_at_first (keeping_of v.cite) ts) (kept_again (keeping_of v.cite) ts (third_table (reading_of v.cite) ts)) (texts_told (reading_of v.cite) ts)) are;
       }
   told-apart (Err e) states suffixes texts firsts again = tt
 
-  pub apart-asked : (result : Result (Told KeptOfMention) X) (v : WriterState E P N) (m : ℕ) → OnOk result (cited v m ≡ asked_for (all_tasks (reading (cited w n)) ss) (cited w n))
-      → OnOk result (WritesOn w v) → OnOk result (desk v m ≡ after (mention_tasks eq job (writing_of answers w)) (desk w n))
-  apart-asked (Ok t) v m asked on = told-asked w n ss v m asked on ∙ ap (λ ts. after (map (state_task w.cite) (all_tasks (reading_of w.cite) ts)) (desk w n)) are
-  apart-asked (Err e) v m asked on = tt
+  pub apart-asked : (result : Result (Told KeptOfMention) X) (before : Way → Type 0) (v : Way → WriterState E P N) (m : ℕ)
+      → OnOk result ((way : Way) → now way → cited (v way) m ≡ asked_for (all_tasks (reading (cited (w way) n)) ss) (cited (w way) n))
+      → OnOk result ((way : Way) → now way → before way × WritesOn (w way) (v way))
+      → OnOk result ((way : Way) → now way → desk (v way) m ≡ after (mention_tasks eq job (writing_of answers (w way))) (desk (w way) n))
+  apart-asked (Ok t) before v m asked on = λ way ok.
+      told-asked (w way) n ss (v way) m (asked way ok) (on way ok).1 ∙ ap (λ ts. after (map (state_task (w way).cite) (all_tasks (reading_of (w way).cite) ts)) (desk (w way) n)) are
+  apart-asked (Err e) before v m asked on = tt

@@ -38,19 +38,22 @@ impl<'d, 'o, 'a, T: EntryLike, P: Drop> Draft<'d, 'o, 'a, T, P> {
         requires cites { AreCitesOf T.eq (table_in self) (job_in self).requests
             (renders_view cites.now) }
         ensures bibliography { let job = job_in self.entry in
-            IfOk result (λ r. r
-            ≡ option_map (λ b. bibliography_of (writing_of T.answers (W.state writer.old))
+            IfOk result (λ r. (way : W.Way) → W.agrees writer.new way → r
+            ≡ option_map (λ b. bibliography_of (writing_of T.answers (W.state writer.old way))
             (wanted_source job.wanted) b
             (filter_map (first_item T.eq (renders_view cites.now))
             (entries_listed T.eq job.wanted job.requests)))
             job.wanted.style.bibliography) }
         ensures asked { let job = job_in self.entry in
-            OnOk result (desk (W.state writer.new) counter.new
+            OnOk result ((way : W.Way) → W.agrees writer.new way
+            → desk (W.state writer.new way) counter.new
             ≡ after (where_wanted job.wanted.style.bibliography
             (bibliography_tasks (wanted_source job.wanted)
             (filter_map (first_item T.eq (renders_view cites.now))
             (entries_listed T.eq job.wanted job.requests))))
-            (desk (W.state writer.old) counter.old)) }
+            (desk (W.state writer.old way) counter.old)) }
+        ensures agreed { OnOk result ((way : W.Way) → W.agrees writer.new way
+            → W.agrees writer.old way) }
     {
         match &self.wanted.wanted.style.bibliography {
             Some(style) => {

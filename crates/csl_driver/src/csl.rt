@@ -40,12 +40,15 @@ impl<'d, 'o, 'a, T: EntryLike, P: Eq + Drop> Draft<'d, 'o, 'a, T, P> {
         alloc: Global,
         writer: &mut W,
     ) -> Result<(Rendered, CslAccount<'a, T>), W::Error>
-        ensures answer { IfOk result
-            (IsExactlyCsl T.eq P.eq (writing_of T.answers (W.state writer.old))
-            (job_in self.entry)) }
-        ensures asked { OnOk result (W.state writer.new
+        ensures answer { IfOk result (λ r. (way : W.Way) → W.agrees writer.new way
+            → IsExactlyCsl T.eq P.eq (writing_of T.answers (W.state writer.old way))
+            (job_in self.entry) r) }
+        ensures asked { OnOk result ((way : W.Way) → W.agrees writer.new way
+            → W.state writer.new way
             ≡ asked_for (csl_tasks T.eq (job_in self.entry)
-            (writing_of T.answers (W.state writer.old)) P.eq) (W.state writer.old)) }
+            (writing_of T.answers (W.state writer.old way)) P.eq) (W.state writer.old way)) }
+        ensures agreed { OnOk result ((way : W.Way) → W.agrees writer.new way
+            → W.agrees writer.old way) }
     {
         let cited = self.cited;
         let mut counter = Renders::new();
@@ -77,11 +80,16 @@ impl<'d, 'o, 'a, T: EntryLike, P: Eq + Drop> Draft<'d, 'o, 'a, T, P> {
         requires notes { map (λ n. n.items) notes.now ≡ cite_notes T.eq (job_in self) }
         requires counts { map (λ n. length n.items) notes.now
             ≡ cite_counts (job_in self).requests }
-        ensures told { IfOk result (AreToldApart T.eq (job_in self.entry)
-            (writing_of T.answers (W.state writer.old))) }
-        ensures asked { OnOk result (desk (W.state writer.new) counter.new
+        ensures told { IfOk result (λ t. (way : W.Way) → W.agrees writer.new way
+            → AreToldApart T.eq (job_in self.entry)
+            (writing_of T.answers (W.state writer.old way)) t) }
+        ensures asked { OnOk result ((way : W.Way) → W.agrees writer.new way
+            → desk (W.state writer.new way) counter.new
             ≡ after (mention_tasks T.eq (job_in self.entry)
-            (writing_of T.answers (W.state writer.old))) (desk (W.state writer.old) counter.old)) }
+            (writing_of T.answers (W.state writer.old way)))
+            (desk (W.state writer.old way) counter.old)) }
+        ensures agreed { OnOk result ((way : W.Way) → W.agrees writer.new way
+            → W.agrees writer.old way) }
     {
         let homes = homes(alloc, self.requests, &self.cited.listing, notes)?;
         let properties = properties_of_mentions(alloc, &homes, self.cited.offset)?;
@@ -98,11 +106,15 @@ impl<'d, 'o, 'a, T: EntryLike, P: Eq + Drop> Draft<'d, 'o, 'a, T, P> {
         counter: &mut Renders,
     ) -> Result<Vec<RenderedCitation>, W::Error>
         requires cites { map (λ c. c.request) (renders_view cites.now) ≡ (job_in self).requests }
-        ensures citations { IfOk result (λ v. v.items
-            ≡ told_citations (writing_of T.answers (W.state writer.old))
+        ensures citations { IfOk result (λ v. (way : W.Way) → W.agrees writer.new way
+            → v.items ≡ told_citations (writing_of T.answers (W.state writer.old way))
             (renders_view cites.now)) }
-        ensures asked { OnOk result (desk (W.state writer.new) counter.new
-            ≡ after (last_tasks (renders_view cites.now)) (desk (W.state writer.old) counter.old)) }
+        ensures asked { OnOk result ((way : W.Way) → W.agrees writer.new way
+            → desk (W.state writer.new way) counter.new
+            ≡ after (last_tasks (renders_view cites.now))
+            (desk (W.state writer.old way) counter.old)) }
+        ensures agreed { OnOk result ((way : W.Way) → W.agrees writer.new way
+            → W.agrees writer.old way) }
     {
         let mut citations = Vec::with_capacity(alloc, cites.len())?;
         for (index, cite) in cites.iter().enumerate() {

@@ -57,16 +57,20 @@ impl<'d, 'o, 'a, T: EntryLike, P: Drop> Draft<'d, 'o, 'a, T, P> {
         ensures bibliography { let job = job_in self.entry in
             let means = item_means told.now.states.items told.now.suffixes.items in
             let firsts = listed_cites T.eq means (renders_view cites.now) (listed T.eq job) in
-            IfOk result (λ r. r
-            ≡ option_map (λ b. bibliography_by_means (writing_of T.answers (W.state writer.old))
+            IfOk result (λ r. (way : W.Way) → W.agrees writer.new way → r
+            ≡ option_map (λ b. bibliography_by_means
+            (writing_of T.answers (W.state writer.old way))
             (wanted_source job.wanted) b firsts) job.wanted.style.bibliography) }
         ensures asked { let job = job_in self.entry in
             let means = item_means told.now.states.items told.now.suffixes.items in
             let firsts = listed_cites T.eq means (renders_view cites.now) (listed T.eq job) in
-            OnOk result (desk (W.state writer.new) counter.new
+            OnOk result ((way : W.Way) → W.agrees writer.new way
+            → desk (W.state writer.new way) counter.new
             ≡ after (where_wanted job.wanted.style.bibliography
             (tasks_by_means (wanted_source job.wanted) firsts))
-            (desk (W.state writer.old) counter.old)) }
+            (desk (W.state writer.old way) counter.old)) }
+        ensures agreed { OnOk result ((way : W.Way) → W.agrees writer.new way
+            → W.agrees writer.old way) }
     {
         match &self.wanted.wanted.style.bibliography {
             Some(style) => {

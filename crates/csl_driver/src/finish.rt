@@ -122,10 +122,14 @@ impl<'a, T: EntryLike, P: Eq + Drop> BibliographyDriver<'a, T, P> {
     /// cites, items and dates as this writer writes them. The account counts how often it was
     /// asked.
     ///
+    /// A way is a whole rule by which the writer may turn out to write (`CiteWriter`). In every way
+    /// with which the writer agrees in the end, the answer is the specified one of what that rule
+    /// gives, and the writer was asked for exactly what that answer asks for.
+    ///
     /// # Errors
     /// `Driver` where `finish` refuses before anything is rendered, so that the writer wasn't asked
-    /// for anything; `Writer`, with the writer's own error, where it refuses, and where memory runs
-    /// out later on.
+    /// for anything and is as it was; `Writer`, with the writer's own error, where it refuses, and
+    /// where memory runs out later on.
     pub fn finish_with<W: CiteWriter<T, P>>(
         self,
         request: BibliographyRequest<'_, 'a, T>,
@@ -133,13 +137,16 @@ impl<'a, T: EntryLike, P: Eq + Drop> BibliographyDriver<'a, T, P> {
         writer: &mut W,
     ) -> Result<(Rendered, Account<'a, T>), FinishError<W::Error>>
         ensures finished { FinishesWith T.eq (job_of self.entry request.entry)
-            (IsAnswer T.eq P.eq (writing_of T.answers (W.state writer.old)) mode
-            (job_of self.entry request.entry)) result }
-        ensures asked { OnOk result (W.state writer.new
-            ≡ asked_for (tasks T.eq P.eq (writing_of T.answers (W.state writer.old)) mode
-            (job_of self.entry request.entry)) (W.state writer.old)) }
-        ensures unasked { IfErr result
-            (WhereDriverRefuses (W.state writer.new ≡ W.state writer.old)) }
+            (λ r. (way : W.Way) → W.agrees writer.new way
+            → IsAnswer T.eq P.eq (writing_of T.answers (W.state writer.old way)) mode
+            (job_of self.entry request.entry) r) result }
+        ensures asked { OnOk result ((way : W.Way) → W.agrees writer.new way
+            → W.state writer.new way
+            ≡ asked_for (tasks T.eq P.eq (writing_of T.answers (W.state writer.old way)) mode
+            (job_of self.entry request.entry)) (W.state writer.old way)) }
+        ensures agreed { OnOk result ((way : W.Way) → W.agrees writer.new way
+            → W.agrees writer.old way) }
+        ensures unasked { IfErr result (WhereDriverRefuses (writer.new ≡ writer.old)) }
     {
         self.answer_with(&request, mode, writer)
     }
@@ -156,14 +163,16 @@ impl<'a, T: EntryLike, P: Eq + Drop> BibliographyDriver<'a, T, P> {
         writer: &mut W,
     ) -> Result<(Rendered, Account<'a, T>), FinishError<W::Error>>
         ensures finished { FinishesWith T.eq (job_of self.now request.now)
-            (IsAnswer T.eq P.eq (writing_of T.answers (W.state writer.old)) mode
-            (job_of self.now request.now))
-            result }
-        ensures asked { OnOk result (W.state writer.new
-            ≡ asked_for (tasks T.eq P.eq (writing_of T.answers (W.state writer.old)) mode
-            (job_of self.now request.now)) (W.state writer.old)) }
-        ensures unasked { IfErr result
-            (WhereDriverRefuses (W.state writer.new ≡ W.state writer.old)) }
+            (λ r. (way : W.Way) → W.agrees writer.new way
+            → IsAnswer T.eq P.eq (writing_of T.answers (W.state writer.old way)) mode
+            (job_of self.now request.now) r) result }
+        ensures asked { OnOk result ((way : W.Way) → W.agrees writer.new way
+            → W.state writer.new way
+            ≡ asked_for (tasks T.eq P.eq (writing_of T.answers (W.state writer.old way)) mode
+            (job_of self.now request.now)) (W.state writer.old way)) }
+        ensures agreed { OnOk result ((way : W.Way) → W.agrees writer.new way
+            → W.agrees writer.old way) }
+        ensures unasked { IfErr result (WhereDriverRefuses (writer.new ≡ writer.old)) }
     {
         let alloc = self.alloc;
         let (requests, wanted) = without_rings(alloc, &self.citations, request)?;
@@ -190,13 +199,15 @@ impl<'d, 'o, 'a, T: EntryLike, P: Eq + Drop> Draft<'d, 'o, 'a, T, P> {
         mode: RoundMode,
         writer: &mut W,
     ) -> Result<(Rendered, Account<'a, T>), W::Error>
-        ensures answer { IfOk result
-            (IsAnswer T.eq P.eq (writing_of T.answers (W.state writer.old)) mode
-            (job_in self.entry)) }
-        ensures asked { OnOk result (W.state writer.new
-            ≡ asked_for (tasks T.eq P.eq (writing_of T.answers (W.state writer.old)) mode
-            (job_in self.entry))
-            (W.state writer.old)) }
+        ensures answer { IfOk result (λ r. (way : W.Way) → W.agrees writer.new way
+            → IsAnswer T.eq P.eq (writing_of T.answers (W.state writer.old way)) mode
+            (job_in self.entry) r) }
+        ensures asked { OnOk result ((way : W.Way) → W.agrees writer.new way
+            → W.state writer.new way
+            ≡ asked_for (tasks T.eq P.eq (writing_of T.answers (W.state writer.old way)) mode
+            (job_in self.entry)) (W.state writer.old way)) }
+        ensures agreed { OnOk result ((way : W.Way) → W.agrees writer.new way
+            → W.agrees writer.old way) }
     {
         let table = &self.cited.table;
         let mut counter = Renders::new();
@@ -227,12 +238,16 @@ impl<'d, 'o, 'a, T: EntryLike, P: Eq + Drop> Draft<'d, 'o, 'a, T, P> {
         writer: &mut W,
         counter: &mut Renders,
     ) -> Result<Cites<'d, 'a, T, P>, W::Error>
-        ensures cites { IfOk result (λ c. renders_view c.by_request.items
-            ≡ rendered_first T.eq P.eq (writing_of T.answers (W.state writer.old))
+        ensures cites { IfOk result (λ c. (way : W.Way) → W.agrees writer.new way
+            → renders_view c.by_request.items
+            ≡ rendered_first T.eq P.eq (writing_of T.answers (W.state writer.old way))
             (job_in self.entry)) }
-        ensures asked { OnOk result (desk (W.state writer.new) counter.new
+        ensures asked { OnOk result ((way : W.Way) → W.agrees writer.new way
+            → desk (W.state writer.new way) counter.new
             ≡ after (begun_tasks T.eq P.eq (job_in self.entry))
-            (desk (W.state writer.old) counter.old)) }
+            (desk (W.state writer.old way) counter.old)) }
+        ensures agreed { OnOk result ((way : W.Way) → W.agrees writer.new way
+            → W.agrees writer.old way) }
     {
         let table = &self.cited.table;
         let numbers = self.cited.numbers(alloc, &self.cited.listing)?;
@@ -276,10 +291,15 @@ impl<'d, 'o, 'a, T: EntryLike, P: Eq + Drop> Draft<'d, 'o, 'a, T, P> {
         counter: &mut Renders,
     ) -> Result<Vec<RenderedCitation>, W::Error>
         requires cites { map (λ c. c.request) (renders_view cites.now) ≡ (job_in self).requests }
-        ensures citations { IfOk result (λ v. v.items
-            ≡ citations_of (writing_of T.answers (W.state writer.old)) (renders_view cites.now)) }
-        ensures asked { OnOk result (desk (W.state writer.new) counter.new
-            ≡ after (last_tasks (renders_view cites.now)) (desk (W.state writer.old) counter.old)) }
+        ensures citations { IfOk result (λ v. (way : W.Way) → W.agrees writer.new way
+            → v.items ≡ citations_of (writing_of T.answers (W.state writer.old way))
+            (renders_view cites.now)) }
+        ensures asked { OnOk result ((way : W.Way) → W.agrees writer.new way
+            → desk (W.state writer.new way) counter.new
+            ≡ after (last_tasks (renders_view cites.now))
+            (desk (W.state writer.old way) counter.old)) }
+        ensures agreed { OnOk result ((way : W.Way) → W.agrees writer.new way
+            → W.agrees writer.old way) }
     {
         let mut citations = Vec::with_capacity(alloc, cites.len())?;
         for (index, cite) in cites.iter().enumerate() {

@@ -56,25 +56,29 @@ impl<'a, T: EntryLike, P: Eq + Drop> BibliographyDriver<'a, T, P> {
     }
 
     /// Answers all requests, as `finish_csl` does, with cites, items and dates as this writer
-    /// writes them. The account counts how often it was asked.
+    /// writes them, in every way with which it agrees in the end, as in `finish_with`. The account
+    /// counts how often it was asked.
     ///
     /// # Errors
     /// `Driver` where `finish_csl` refuses before anything is rendered, so that the writer wasn't
-    /// asked for anything; `Writer`, with the writer's own error, where it refuses, and where
-    /// memory runs out later on.
+    /// asked for anything and is as it was; `Writer`, with the writer's own error, where it refuses,
+    /// and where memory runs out later on.
     pub fn finish_csl_with<W: CiteWriter<T, P>>(
         self,
         request: BibliographyRequest<'_, 'a, T>,
         writer: &mut W,
     ) -> Result<(Rendered, CslAccount<'a, T>), FinishError<W::Error>>
         ensures finished { FinishesWith T.eq (job_of self.entry request.entry)
-            (IsCslAnswer T.eq P.eq (writing_of T.answers (W.state writer.old))
-            (job_of self.entry request.entry)) result }
-        ensures asked { OnOk result (W.state writer.new
+            (λ r. (way : W.Way) → W.agrees writer.new way
+            → IsCslAnswer T.eq P.eq (writing_of T.answers (W.state writer.old way))
+            (job_of self.entry request.entry) r) result }
+        ensures asked { OnOk result ((way : W.Way) → W.agrees writer.new way
+            → W.state writer.new way
             ≡ asked_for (csl_tasks T.eq (job_of self.entry request.entry)
-            (writing_of T.answers (W.state writer.old)) P.eq) (W.state writer.old)) }
-        ensures unasked { IfErr result
-            (WhereDriverRefuses (W.state writer.new ≡ W.state writer.old)) }
+            (writing_of T.answers (W.state writer.old way)) P.eq) (W.state writer.old way)) }
+        ensures agreed { OnOk result ((way : W.Way) → W.agrees writer.new way
+            → W.agrees writer.old way) }
+        ensures unasked { IfErr result (WhereDriverRefuses (writer.new ≡ writer.old)) }
     {
         self.answer_csl_with(&request, writer)
     }
@@ -90,13 +94,16 @@ impl<'a, T: EntryLike, P: Eq + Drop> BibliographyDriver<'a, T, P> {
         writer: &mut W,
     ) -> Result<(Rendered, CslAccount<'a, T>), FinishError<W::Error>>
         ensures finished { FinishesWith T.eq (job_of self.now request.now)
-            (IsCslAnswer T.eq P.eq (writing_of T.answers (W.state writer.old))
-            (job_of self.now request.now)) result }
-        ensures asked { OnOk result (W.state writer.new
+            (λ r. (way : W.Way) → W.agrees writer.new way
+            → IsCslAnswer T.eq P.eq (writing_of T.answers (W.state writer.old way))
+            (job_of self.now request.now) r) result }
+        ensures asked { OnOk result ((way : W.Way) → W.agrees writer.new way
+            → W.state writer.new way
             ≡ asked_for (csl_tasks T.eq (job_of self.now request.now)
-            (writing_of T.answers (W.state writer.old)) P.eq) (W.state writer.old)) }
-        ensures unasked { IfErr result
-            (WhereDriverRefuses (W.state writer.new ≡ W.state writer.old)) }
+            (writing_of T.answers (W.state writer.old way)) P.eq) (W.state writer.old way)) }
+        ensures agreed { OnOk result ((way : W.Way) → W.agrees writer.new way
+            → W.agrees writer.old way) }
+        ensures unasked { IfErr result (WhereDriverRefuses (writer.new ≡ writer.old)) }
     {
         let alloc = self.alloc;
         let (requests, wanted) = without_rings(alloc, &self.citations, request)?;

@@ -27,12 +27,17 @@ pub(crate) fn compared_cite<T: EntryLike, P, W: CiteWriter<T, P>>(
     writer: &mut W,
     counter: &mut Renders,
 ) -> Result<Cite, W::Error>
-    ensures cite { IfOk result (λ c. c ≡ (W.state writer.old).cite
+    ensures cite { IfOk result (λ c. (way : W.Way) → W.agrees writer.new way
+        → c ≡ (W.state writer.old way).cite
         (compared_task (request_view request.entry.request.now) entry.now
         (properties_view properties.now) purpose)) }
-    ensures asked { OnOk result (desk (W.state writer.new) counter.new
+    ensures asked { OnOk result ((way : W.Way) → W.agrees writer.new way
+        → desk (W.state writer.new way) counter.new
         ≡ after (cite_task (compared_task (request_view request.entry.request.now) entry.now
-        (properties_view properties.now) purpose) ∷ []) (desk (W.state writer.old) counter.old)) }
+        (properties_view properties.now) purpose) ∷ [])
+        (desk (W.state writer.old way) counter.old)) }
+    ensures agreed { OnOk result ((way : W.Way) → W.agrees writer.new way
+        → W.agrees writer.old way) }
 {
     let task = CiteTask {
         source: request.source(),

@@ -46,14 +46,17 @@ pub fn first_renders<'r, 'a, T: EntryLike, P: Drop, W: CiteWriter<T, P>>(
 ) -> Result<Cites<'r, 'a, T, P>, W::Error>
     requires shape { HasShapeOf (requests_view requests.requests.now)
         (map (λ f. f.items) firsts.now) }
-    ensures cites { IfOk result (λ c. renders_view c.by_request.items
-        ≡ first_renders (writing_of T.answers (W.state writer.old))
+    ensures cites { IfOk result (λ c. (way : W.Way) → W.agrees writer.new way
+        → renders_view c.by_request.items
+        ≡ first_renders (writing_of T.answers (W.state writer.old way))
         (requests_view requests.entry.requests.now)
         (map (λ f. f.items) firsts.now)) }
-    ensures asked { OnOk result (desk (W.state writer.new) counter.new
+    ensures asked { OnOk result ((way : W.Way) → W.agrees writer.new way
+        → desk (W.state writer.new way) counter.new
         ≡ after (first_tasks (requests_view requests.entry.requests.now)
-        (map (λ f. f.items) firsts.now))
-        (desk (W.state writer.old) counter.old)) }
+        (map (λ f. f.items) firsts.now)) (desk (W.state writer.old way) counter.old)) }
+    ensures agreed { OnOk result ((way : W.Way) → W.agrees writer.new way
+        → W.agrees writer.old way) }
 {
     let mut cites = Cites::with_capacity(alloc, firsts.len())?;
     for (k, of_request) in firsts.iter().enumerate() {
@@ -72,13 +75,17 @@ fn first_renders_of<'r, 'a, T: EntryLike, P: Drop, W: CiteWriter<T, P>>(
     counter: &mut Renders,
 ) -> Result<SpeculativeCiteRender<'r, 'a, T, P>, W::Error>
     requires shape { length firsts.now ≡ length (request_view request.request.now).cites }
-    ensures cites { IfOk result (λ c. render_view c
-        ≡ first_renders_of (writing_of T.answers (W.state writer.old))
+    ensures cites { IfOk result (λ c. (way : W.Way) → W.agrees writer.new way
+        → render_view c
+        ≡ first_renders_of (writing_of T.answers (W.state writer.old way))
         (request_view request.entry.request.now)
         firsts.now) }
-    ensures asked { OnOk result (desk (W.state writer.new) counter.new
+    ensures asked { OnOk result ((way : W.Way) → W.agrees writer.new way
+        → desk (W.state writer.new way) counter.new
         ≡ after (first_tasks_of (request_view request.entry.request.now) firsts.now)
-        (desk (W.state writer.old) counter.old)) }
+        (desk (W.state writer.old way) counter.old)) }
+    ensures agreed { OnOk result ((way : W.Way) → W.agrees writer.new way
+        → W.agrees writer.old way) }
 {
     let mut cites = SpeculativeCiteRender {
         items: Vec::with_capacity(alloc, firsts.len())?,
@@ -100,13 +107,17 @@ fn first_render<'a, T: EntryLike, P: Drop, W: CiteWriter<T, P>>(
     writer: &mut W,
     counter: &mut Renders,
 ) -> Result<SpeculativeItemRender<'a, T, P>, W::Error>
-    ensures cite { IfOk result (λ i. item_view i
-        ≡ first_render (writing_of T.answers (W.state writer.old))
+    ensures cite { IfOk result (λ i. (way : W.Way) → W.agrees writer.new way
+        → item_view i
+        ≡ first_render (writing_of T.answers (W.state writer.old way))
         (request_view request.entry.request.now)
         (cite_view item.now) first) }
-    ensures asked { OnOk result (desk (W.state writer.new) counter.new
+    ensures asked { OnOk result ((way : W.Way) → W.agrees writer.new way
+        → desk (W.state writer.new way) counter.new
         ≡ after (cite_task (first_task (request_view request.entry.request.now)
-        (cite_view item.now) first) ∷ []) (desk (W.state writer.old) counter.old)) }
+        (cite_view item.now) first) ∷ []) (desk (W.state writer.old way) counter.old)) }
+    ensures agreed { OnOk result ((way : W.Way) → W.agrees writer.new way
+        → W.agrees writer.old way) }
 {
     let cite_props = first_written_by(first);
     let cite = compared_cite(

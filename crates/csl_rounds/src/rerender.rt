@@ -39,13 +39,17 @@ pub(crate) fn render_marked<'a, T: EntryLike, P, W: CiteWriter<T, P>>(
 ) -> Result<(), W::Error>
     requires cites { AreCitesOfTable T.eq (table_view table.now) (renders_view cites.old) }
     requires long { length states.now ≡ length (table_view table.now).entries }
-    ensures again { OnOk result (renders_view cites.new
-        ≡ document_again states.now (writing_of T.answers (W.state writer.old))
+    ensures again { OnOk result ((way : W.Way) → W.agrees writer.new way
+        → renders_view cites.new
+        ≡ document_again states.now (writing_of T.answers (W.state writer.old way))
         (table_view table.now).places
         (renders_view cites.old)) }
-    ensures asked { OnOk result (desk (W.state writer.new) counter.new
+    ensures asked { OnOk result ((way : W.Way) → W.agrees writer.new way
+        → desk (W.state writer.new way) counter.new
         ≡ after (document_tasks states.now (table_view table.now).places (renders_view cites.old))
-        (desk (W.state writer.old) counter.old)) }
+        (desk (W.state writer.old way) counter.old)) }
+    ensures agreed { OnOk result ((way : W.Way) → W.agrees writer.new way
+        → W.agrees writer.old way) }
 {
     let places = table.places();
     for r in 0..cites.len() {
@@ -68,13 +72,16 @@ fn render_items<T: EntryLike, P, W: CiteWriter<T, P>>(
     writer: &mut W,
     counter: &mut Renders,
 ) -> Result<(), W::Error>
-    ensures again { OnOk result (items_view items.new
-        ≡ by_places (cite_again states.now (writing_of T.answers (W.state writer.old))
+    ensures again { OnOk result ((way : W.Way) → W.agrees writer.new way
+        → items_view items.new
+        ≡ by_places (cite_again states.now (writing_of T.answers (W.state writer.old way))
         (request_view request.entry.request.now) places.now) (items_view items.old)) }
-    ensures asked { OnOk result (desk (W.state writer.new) counter.new
+    ensures asked { OnOk result ((way : W.Way) → W.agrees writer.new way
+        → desk (W.state writer.new way) counter.new
         ≡ after (request_tasks states.now (request_view request.entry.request.now) places.now
-        (items_view items.old))
-        (desk (W.state writer.old) counter.old)) }
+        (items_view items.old)) (desk (W.state writer.old way) counter.old)) }
+    ensures agreed { OnOk result ((way : W.Way) → W.agrees writer.new way
+        → W.agrees writer.old way) }
 {
     for k in 0..items.len() {
         let state = state_at(states, places, k);
@@ -104,15 +111,18 @@ fn render_with<T: EntryLike, P, W: CiteWriter<T, P>>(
     writer: &mut W,
     counter: &mut Renders,
 ) -> Result<(), W::Error>
-    ensures again { OnOk result (item_view item.new
-        ≡ with_any (writing_of T.answers (W.state writer.old))
+    ensures again { OnOk result ((way : W.Way) → W.agrees writer.new way
+        → item_view item.new
+        ≡ with_any (writing_of T.answers (W.state writer.old way))
         (request_view request.entry.request.now) (option_map (λ s. s.now) state.entry)
         (item_view item.old)) }
-    ensures asked { OnOk result (desk (W.state writer.new) counter.new
+    ensures asked { OnOk result ((way : W.Way) → W.agrees writer.new way
+        → desk (W.state writer.new way) counter.new
         ≡ after (tasks_with (request_view request.entry.request.now)
         (option_map (λ s. s.now) state.entry)
-        (item_view item.old))
-        (desk (W.state writer.old) counter.old)) }
+        (item_view item.old)) (desk (W.state writer.old way) counter.old)) }
+    ensures agreed { OnOk result ((way : W.Way) → W.agrees writer.new way
+        → W.agrees writer.old way) }
 {
     match state {
         Some(state) => render_again(alloc, request, state.clone()?, item, writer, counter),
@@ -129,14 +139,17 @@ fn render_again<T: EntryLike, P, W: CiteWriter<T, P>>(
     writer: &mut W,
     counter: &mut Renders,
 ) -> Result<(), W::Error>
-    ensures again { OnOk result (item_view item.new
-        ≡ rendered_again (writing_of T.answers (W.state writer.old))
+    ensures again { OnOk result ((way : W.Way) → W.agrees writer.new way
+        → item_view item.new
+        ≡ rendered_again (writing_of T.answers (W.state writer.old way))
         (request_view request.entry.request.now) state
         (item_view item.old)) }
-    ensures asked { OnOk result (desk (W.state writer.new) counter.new
+    ensures asked { OnOk result ((way : W.Way) → W.agrees writer.new way
+        → desk (W.state writer.new way) counter.new
         ≡ after (cite_task (again_task (request_view request.entry.request.now) state
-        (item_view item.old)) ∷ [])
-        (desk (W.state writer.old) counter.old)) }
+        (item_view item.old)) ∷ []) (desk (W.state writer.old way) counter.old)) }
+    ensures agreed { OnOk result ((way : W.Way) → W.agrees writer.new way
+        → W.agrees writer.old way) }
 {
     item.cite_props.speculative.disambiguation = state;
     let cite = compared_cite(

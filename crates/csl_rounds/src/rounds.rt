@@ -71,10 +71,14 @@ pub fn disambiguate<'a, T: EntryLike, P, W: CiteWriter<T, P>>(
 ) -> Result<Rounds, W::Error>
     requires cites { AreCitesOfTable T.eq (table_view table.now) (renders_view cites.old) }
     requires begun { mode ≡ RoundMode.Full → AreBegun (renders_view cites.old) }
-    ensures { IfOk result (λ r. AreAfterRounds mode T.eq (writing_of T.answers (W.state writer.old))
+    ensures rounds { IfOk result (λ r. (way : W.Way) → W.agrees writer.new way
+        → AreAfterRounds mode T.eq (writing_of T.answers (W.state writer.old way))
         (renders_view cites.old) (table_view table.now).entries
-        (desk (W.state writer.old) counter.old)
-        (renders_view cites.new) r.states.items r.marked (desk (W.state writer.new) counter.new)) }
+        (desk (W.state writer.old way) counter.old)
+        (renders_view cites.new) r.states.items r.marked
+        (desk (W.state writer.new way) counter.new)) }
+    ensures agreed { OnOk result ((way : W.Way) → W.agrees writer.new way
+        → W.agrees writer.old way) }
 {
     let mut rounds = Rounds {
         marked: 0,
@@ -115,19 +119,24 @@ fn run_round<'a, T: EntryLike, P, W: CiteWriter<T, P>>(
     requires long { length states.old ≡ length (table_view table.now).entries }
     ensures again { IfOk result (λ again. again
         ≡ has_any (round_marks mode T.eq T.answers (renders_view cites.old))) }
-    ensures marked { OnOk result (renders_view cites.new
-        ≡ at_table (writing_of T.answers (W.state writer.old))
-        (marked_by mode T.eq (writing_of T.answers (W.state writer.old)) (renders_view cites.old))
-        (renders_view cites.old)) }
-    ensures states { OnOk result ((known : StateTable T)
+    ensures marked { OnOk result ((way : W.Way) → W.agrees writer.new way
+        → renders_view cites.new
+        ≡ at_table (writing_of T.answers (W.state writer.old way))
+        (marked_by mode T.eq (writing_of T.answers (W.state writer.old way))
+        (renders_view cites.old)) (renders_view cites.old)) }
+    ensures states { OnOk result ((way : W.Way) → W.agrees writer.new way
+        → (known : StateTable T)
         → AreStatesOf T.eq (table_view table.now).entries known states.old
         → AreStatesOf T.eq (table_view table.now).entries
-        (with_marks (marked_by mode T.eq (writing_of T.answers (W.state writer.old))
+        (with_marks (marked_by mode T.eq (writing_of T.answers (W.state writer.old way))
         (renders_view cites.old)) known) states.new) }
-    ensures asked { OnOk result (desk (W.state writer.new) counter.new
-        ≡ after (again_tasks (marked_by mode T.eq (writing_of T.answers (W.state writer.old))
+    ensures asked { OnOk result ((way : W.Way) → W.agrees writer.new way
+        → desk (W.state writer.new way) counter.new
+        ≡ after (again_tasks (marked_by mode T.eq (writing_of T.answers (W.state writer.old way))
         (renders_view cites.old))
-        (renders_view cites.old)) (desk (W.state writer.old) counter.old)) }
+        (renders_view cites.old)) (desk (W.state writer.old way) counter.old)) }
+    ensures agreed { OnOk result ((way : W.Way) → W.agrees writer.new way
+        → W.agrees writer.old way) }
 {
     let marks = round_marks(alloc, cites, table, mode)?;
     if marks.is_empty() {

@@ -36,17 +36,20 @@ pub(crate) fn write_changed<W, C, M: WrittenBy<W, C>>(
     requires firsts { length subjects.now ≡ length firsts.now }
     requires mentions { length subjects.now ≡ length mentions.old }
     requires again { length subjects.now ≡ length again.old }
-    requires kept { firsts.now
-        ≡ kept_at_first (keeping (M.writing writer.old counter.old)) subjects.now }
-    ensures again { OnOk result (mentions.new
-        ≡ all_changed (rewritten (reading (M.writing writer.old counter.old)) changed)
+    requires kept { (way : M.Way) → M.agrees writer.old way → firsts.now
+        ≡ kept_at_first (keeping (M.writing writer.old counter.old way)) subjects.now }
+    ensures again { OnOk result ((way : M.Way) → M.agrees writer.new way
+        → mentions.new
+        ≡ all_changed (rewritten (reading (M.writing writer.old counter.old way)) changed)
         (zip subjects.now states.now) mentions.old) }
-    ensures kept { OnOk result (again.new
-        ≡ all_changed (rekept (keeping (M.writing writer.old counter.old)) changed)
+    ensures kept { OnOk result ((way : M.Way) → M.agrees writer.new way
+        → again.new
+        ≡ all_changed (rekept (keeping (M.writing writer.old counter.old way)) changed)
         (zip subjects.now states.now) again.old) }
-    ensures asked { OnOk result (M.writing writer.new counter.new
+    ensures asked { OnOk result ((way : M.Way) → M.agrees writer.new way
+        → M.writing writer.new counter.new way
         ≡ asked_for (flat_map (tasks_of changed) (zip subjects.now states.now))
-        (M.writing writer.old counter.old)) }
+        (M.writing writer.old counter.old way)) }
     ensures goes_on { OnOk result (M.goes_on writer.old writer.new) }
 {
     for k in 0..subjects.len() {
@@ -77,16 +80,20 @@ fn write_if_changed<W, C, M: WrittenBy<W, C>>(
     writer: &mut W,
     counter: &mut C,
 ) -> Result<(), M::Error>
-    requires { first.now ≡ first_kept (M.writing writer.old counter.old) subject.now.mention }
-    ensures again { OnOk result (mention.new
-        ≡ rewritten (reading (M.writing writer.old counter.old)) changed (subject.now, state.now)
-        mention.old) }
-    ensures kept { OnOk result (again.new
-        ≡ rekept (keeping (M.writing writer.old counter.old)) changed (subject.now, state.now)
+    requires { (way : M.Way) → M.agrees writer.old way
+        → first.now ≡ first_kept (M.writing writer.old counter.old way) subject.now.mention }
+    ensures again { OnOk result ((way : M.Way) → M.agrees writer.new way
+        → mention.new
+        ≡ rewritten (reading (M.writing writer.old counter.old way)) changed
+        (subject.now, state.now) mention.old) }
+    ensures kept { OnOk result ((way : M.Way) → M.agrees writer.new way
+        → again.new
+        ≡ rekept (keeping (M.writing writer.old counter.old way)) changed (subject.now, state.now)
         again.old) }
-    ensures asked { OnOk result (M.writing writer.new counter.new
+    ensures asked { OnOk result ((way : M.Way) → M.agrees writer.new way
+        → M.writing writer.new counter.new way
         ≡ asked_for (tasks_of changed (subject.now, state.now))
-        (M.writing writer.old counter.old)) }
+        (M.writing writer.old counter.old way)) }
     ensures goes_on { OnOk result (M.goes_on writer.old writer.new) }
 {
     if !is_changed(changed, state) {

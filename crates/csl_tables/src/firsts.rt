@@ -33,9 +33,11 @@ pub(crate) fn write_firsts<W, C, M: WrittenBy<W, C>>(
     writer: &mut W,
     counter: &mut C,
 ) -> Result<Firsts<M::Kept>, M::Error>
-    ensures firsts { IfOk result (AreFirsts (M.writing writer.old counter.old) subjects.now) }
-    ensures asked { OnOk result (M.writing writer.new counter.new
-        ≡ asked_for (first_tasks subjects.now) (M.writing writer.old counter.old)) }
+    ensures firsts { IfOk result (λ f. (way : M.Way) → M.agrees writer.new way
+        → AreFirsts (M.writing writer.old counter.old way) subjects.now f) }
+    ensures asked { OnOk result ((way : M.Way) → M.agrees writer.new way
+        → M.writing writer.new counter.new way
+        ≡ asked_for (first_tasks subjects.now) (M.writing writer.old counter.old way)) }
     ensures goes_on { OnOk result (M.goes_on writer.old writer.new) }
 {
     let mut firsts = Firsts {

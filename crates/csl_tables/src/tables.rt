@@ -62,20 +62,26 @@ pub fn tell_apart<W, C, M: WrittenBy<W, C>>(
     writer: &mut W,
     counter: &mut C,
 ) -> Result<Told<M::Kept>, M::Error>
-    ensures states { IfOk result (λ t. t.states.items
-        ≡ third_table (reading (M.writing writer.old counter.old)) subjects.now) }
-    ensures suffixes { IfOk result (λ t. t.suffixes.items
-        ≡ year_suffixes (reading (M.writing writer.old counter.old)) subjects.now) }
-    ensures texts { IfOk result (λ t. t.texts.items
-        ≡ texts_told (reading (M.writing writer.old counter.old)) subjects.now) }
-    ensures firsts { IfOk result (λ t. t.firsts.items
-        ≡ kept_at_first (keeping (M.writing writer.old counter.old)) subjects.now) }
-    ensures again { IfOk result (λ t. t.again.items
-        ≡ kept_again (keeping (M.writing writer.old counter.old)) subjects.now
-        (third_table (reading (M.writing writer.old counter.old)) subjects.now)) }
-    ensures asked { OnOk result (M.writing writer.new counter.new
-        ≡ asked_for (all_tasks (reading (M.writing writer.old counter.old)) subjects.now)
-        (M.writing writer.old counter.old)) }
+    ensures states { IfOk result (λ t. (way : M.Way) → M.agrees writer.new way
+        → t.states.items
+        ≡ third_table (reading (M.writing writer.old counter.old way)) subjects.now) }
+    ensures suffixes { IfOk result (λ t. (way : M.Way) → M.agrees writer.new way
+        → t.suffixes.items
+        ≡ year_suffixes (reading (M.writing writer.old counter.old way)) subjects.now) }
+    ensures texts { IfOk result (λ t. (way : M.Way) → M.agrees writer.new way
+        → t.texts.items
+        ≡ texts_told (reading (M.writing writer.old counter.old way)) subjects.now) }
+    ensures firsts { IfOk result (λ t. (way : M.Way) → M.agrees writer.new way
+        → t.firsts.items
+        ≡ kept_at_first (keeping (M.writing writer.old counter.old way)) subjects.now) }
+    ensures again { IfOk result (λ t. (way : M.Way) → M.agrees writer.new way
+        → t.again.items
+        ≡ kept_again (keeping (M.writing writer.old counter.old way)) subjects.now
+        (third_table (reading (M.writing writer.old counter.old way)) subjects.now)) }
+    ensures asked { OnOk result ((way : M.Way) → M.agrees writer.new way
+        → M.writing writer.new counter.new way
+        ≡ asked_for (all_tasks (reading (M.writing writer.old counter.old way)) subjects.now)
+        (M.writing writer.old counter.old way)) }
     ensures goes_on { OnOk result (M.goes_on writer.old writer.new) }
 {
     let mut named = tell_by_names(alloc, subjects, writer, counter)?;
@@ -113,23 +119,29 @@ fn tell_by_names<W, C, M: WrittenBy<W, C>>(
     writer: &mut W,
     counter: &mut C,
 ) -> Result<Named<M::Kept>, M::Error>
-    ensures mentions { IfOk result (λ n. n.mentions.items
-        ≡ mentions_in (reading (M.writing writer.old counter.old)) subjects.now
-        (second_table (reading (M.writing writer.old counter.old)) subjects.now)) }
-    ensures tested { IfOk result (λ n. n.tested.items
-        ≡ map (λ s. (reading (M.writing writer.old counter.old) s.mention untold).tested)
+    ensures mentions { IfOk result (λ n. (way : M.Way) → M.agrees writer.new way
+        → n.mentions.items
+        ≡ mentions_in (reading (M.writing writer.old counter.old way)) subjects.now
+        (second_table (reading (M.writing writer.old counter.old way)) subjects.now)) }
+    ensures tested { IfOk result (λ n. (way : M.Way) → M.agrees writer.new way
+        → n.tested.items
+        ≡ map (λ s. (reading (M.writing writer.old counter.old way) s.mention untold).tested)
         subjects.now) }
-    ensures states { IfOk result (λ n. n.states.items
-        ≡ second_table (reading (M.writing writer.old counter.old)) subjects.now) }
-    ensures firsts { IfOk result (λ n. n.firsts.items
-        ≡ kept_at_first (keeping (M.writing writer.old counter.old)) subjects.now) }
-    ensures again { IfOk result (λ n. n.again.items
-        ≡ kept_again (keeping (M.writing writer.old counter.old)) subjects.now
-        (second_table (reading (M.writing writer.old counter.old)) subjects.now)) }
-    ensures asked { OnOk result (M.writing writer.new counter.new
+    ensures states { IfOk result (λ n. (way : M.Way) → M.agrees writer.new way
+        → n.states.items
+        ≡ second_table (reading (M.writing writer.old counter.old way)) subjects.now) }
+    ensures firsts { IfOk result (λ n. (way : M.Way) → M.agrees writer.new way
+        → n.firsts.items
+        ≡ kept_at_first (keeping (M.writing writer.old counter.old way)) subjects.now) }
+    ensures again { IfOk result (λ n. (way : M.Way) → M.agrees writer.new way
+        → n.again.items
+        ≡ kept_again (keeping (M.writing writer.old counter.old way)) subjects.now
+        (second_table (reading (M.writing writer.old counter.old way)) subjects.now)) }
+    ensures asked { OnOk result ((way : M.Way) → M.agrees writer.new way
+        → M.writing writer.new counter.new way
         ≡ asked_for (first_tasks subjects.now ++ tasks_where subjects.now (λ s. is_some s.names)
-        (second_table (reading (M.writing writer.old counter.old)) subjects.now))
-        (M.writing writer.old counter.old)) }
+        (second_table (reading (M.writing writer.old counter.old way)) subjects.now))
+        (M.writing writer.old counter.old way)) }
     ensures goes_on { OnOk result (M.goes_on writer.old writer.new) }
 {
     let firsts = write_firsts(alloc, subjects, writer, counter)?;

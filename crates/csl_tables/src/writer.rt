@@ -28,8 +28,14 @@ pub trait WrittenBy<W, C> {
     /// What is noted of all that was asked for.
     type Notes;
 
-    /// What is written of such mentions, and what was noted.
-    ghost writing: { W → C → MentionsWriter Self Self.Kept Self.Notes };
+    /// The ways in which it may turn out that the writer writes.
+    ghost Way: { Type 0 };
+
+    /// What the writer has written by now agrees with this way.
+    ghost agrees: { W → Way → Type 0 };
+
+    /// What is written of such mentions in a way, and what was noted.
+    ghost writing: { W → C → Way → MentionsWriter Self Self.Kept Self.Notes };
 
     /// A writer goes on from another one: but for what was noted, nothing that is known of it has
     /// changed, also of what it writes beside such mentions.
@@ -38,6 +44,10 @@ pub trait WrittenBy<W, C> {
     ghost stays: { (w : W) → goes_on w w };
 
     ghost follows: { (u : W) (v : W) (w : W) → goes_on u v → goes_on v w → goes_on u w };
+
+    /// What agrees with more agrees with less.
+    ghost agreed_before: { (u : W) (v : W) (way : Way) → goes_on u v → agrees v way
+        → agrees u way };
 
     /// Writes the mention where nothing tells it apart.
     ///
@@ -50,10 +60,11 @@ pub trait WrittenBy<W, C> {
         writer: &mut W,
         counter: &mut C,
     ) -> Result<WrittenMention<Self::Kept>, Self::Error>
-        ensures written { IfOk result
-            (λ w. w ≡ (writing writer.old counter.old).write self.now untold) }
-        ensures asked { OnOk result (writing writer.new counter.new
-            ≡ asked_for ((self.now, untold) ∷ []) (writing writer.old counter.old)) }
+        ensures written { IfOk result (λ w. (way : Way) → agrees writer.new way
+            → w ≡ (writing writer.old counter.old way).write self.now untold) }
+        ensures asked { OnOk result ((way : Way) → agrees writer.new way
+            → writing writer.new counter.new way
+            ≡ asked_for ((self.now, untold) ∷ []) (writing writer.old counter.old way)) }
         ensures goes_on { OnOk result (goes_on writer.old writer.new) };
 
     /// Writes the mention again, where this tells it apart. `first` is what was kept of it where
@@ -70,10 +81,15 @@ pub trait WrittenBy<W, C> {
         writer: &mut W,
         counter: &mut C,
     ) -> Result<WrittenMention<Self::Kept>, Self::Error>
-        ensures written { first.now ≡ first_kept (writing writer.old counter.old) self.now
-            → IfOk result (λ w. w ≡ (writing writer.old counter.old).write self.now told.now) }
-        ensures asked { first.now ≡ first_kept (writing writer.old counter.old) self.now
-            → OnOk result (writing writer.new counter.new
-            ≡ asked_for ((self.now, told.now) ∷ []) (writing writer.old counter.old)) }
+        ensures written { IfOk result (λ w. (way : Way) → agrees writer.new way
+            → first.now ≡ first_kept (writing writer.old counter.old way) self.now
+            → w ≡ (writing writer.old counter.old way).write self.now told.now) }
+        ensures asked { OnOk result ((way : Way) → agrees writer.new way
+            → first.now ≡ first_kept (writing writer.old counter.old way) self.now
+            → writing writer.new counter.new way
+            ≡ asked_for ((self.now, told.now) ∷ []) (writing writer.old counter.old way)) }
         ensures goes_on { OnOk result (goes_on writer.old writer.new) };
+
+    /// There is a way with which the writer agrees.
+    ghost some_way: { (w : W) → (way : Way) × agrees w way };
 }

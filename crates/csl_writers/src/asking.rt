@@ -23,10 +23,14 @@ pub fn written_cite<T: EntryLike, P, W: CiteWriter<T, P>>(
     writer: &mut W,
     counter: &mut Renders,
 ) -> Result<Cite, W::Error>
-    ensures cite { IfOk result (λ c. c ≡ (W.state writer.old).cite (cite_task_view task.entry)) }
-    ensures asked { OnOk result (desk (W.state writer.new) counter.new
+    ensures cite { IfOk result (λ c. (way : W.Way) → W.agrees writer.new way
+        → c ≡ (W.state writer.old way).cite (cite_task_view task.entry)) }
+    ensures asked { OnOk result ((way : W.Way) → W.agrees writer.new way
+        → desk (W.state writer.new way) counter.new
         ≡ after (cite_task (cite_task_view task.entry) ∷ [])
-        (desk (W.state writer.old) counter.old)) }
+        (desk (W.state writer.old way) counter.old)) }
+    ensures agreed { OnOk result ((way : W.Way) → W.agrees writer.new way
+        → W.agrees writer.old way) }
 {
     counter.add_one();
     writer.write_cite(alloc, &task)
@@ -43,10 +47,14 @@ pub fn written_item<T: EntryLike, P, W: CiteWriter<T, P>>(
     writer: &mut W,
     counter: &mut Renders,
 ) -> Result<Option<ElemChildren>, W::Error>
-    ensures item { IfOk result (λ i. i ≡ (W.state writer.old).item (item_task_view task.entry)) }
-    ensures asked { OnOk result (desk (W.state writer.new) counter.new
+    ensures item { IfOk result (λ i. (way : W.Way) → W.agrees writer.new way
+        → i ≡ (W.state writer.old way).item (item_task_view task.entry)) }
+    ensures asked { OnOk result ((way : W.Way) → W.agrees writer.new way
+        → desk (W.state writer.new way) counter.new
         ≡ after (item_task (item_task_view task.entry) ∷ [])
-        (desk (W.state writer.old) counter.old)) }
+        (desk (W.state writer.old way) counter.old)) }
+    ensures agreed { OnOk result ((way : W.Way) → W.agrees writer.new way
+        → W.agrees writer.old way) }
 {
     counter.add_one();
     writer.write_item(alloc, &task)
@@ -63,10 +71,14 @@ pub fn written_date<T: EntryLike, P, W: CiteWriter<T, P>>(
     writer: &mut W,
     counter: &mut Renders,
 ) -> Result<ElemChildren, W::Error>
-    ensures date { IfOk result (λ d. d ≡ (W.state writer.old).date (date_task_view task.entry)) }
-    ensures asked { OnOk result (desk (W.state writer.new) counter.new
+    ensures date { IfOk result (λ d. (way : W.Way) → W.agrees writer.new way
+        → d ≡ (W.state writer.old way).date (date_task_view task.entry)) }
+    ensures asked { OnOk result ((way : W.Way) → W.agrees writer.new way
+        → desk (W.state writer.new way) counter.new
         ≡ after (date_task (date_task_view task.entry) ∷ [])
-        (desk (W.state writer.old) counter.old)) }
+        (desk (W.state writer.old way) counter.old)) }
+    ensures agreed { OnOk result ((way : W.Way) → W.agrees writer.new way
+        → W.agrees writer.old way) }
 {
     counter.add_one();
     writer.write_date(alloc, &task)

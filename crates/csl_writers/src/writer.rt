@@ -11,6 +11,13 @@ use std::alloc::{AllocError, Global};
 /// asked, and equal entries are written equally. All that being asked may change is what the writer
 /// notes of it.
 ///
+/// A *way* is a rule that has an answer for every task, and by which the writer may turn out to
+/// write. Where the rule is known beforehand there is one way. Where it isn't, as in a writer that
+/// asks other code and keeps what that gave, there are many, and what has been written by now
+/// agrees with some of them: the more is written, the fewer are left, and there is always one. The
+/// clauses of a writer, and of each function that asks it, hold in every way with which the writer
+/// agrees in the end.
+///
 /// A driver reads these parts of a tree: its plain text, by which cites are compared; the elements
 /// that stand for names, with their persons; and whether there are elements that stand for a date,
 /// for the number of the entry or for its label. A writer that marks no names is neither grouped
@@ -33,8 +40,14 @@ pub trait CiteWriter<T: EntryLike, P> {
     /// What it notes where it is asked for something.
     type Note;
 
-    /// What it writes, and its notes.
-    ghost state: { Self → WriterState T P Self.Note };
+    /// The ways in which it may turn out to write.
+    ghost Way: { Type 0 };
+
+    /// What it has written by now agrees with this way.
+    ghost agrees: { Self → Way → Type 0 };
+
+    /// What it writes in this way, and its notes.
+    ghost state: { Self → Way → WriterState T P Self.Note };
 
     /// Writes a cite.
     ///
@@ -46,10 +59,12 @@ pub trait CiteWriter<T: EntryLike, P> {
         alloc: Global,
         task: &CiteTask<'_, '_, T, P>,
     ) -> Result<Cite, Self::Error>
-        ensures cite { IfOk result (λ c. c ≡ (state self.old).cite (cite_task_view task.now)) }
-        ensures asked { OnOk result
-            (state self.new ≡ asked_for (cite_task (cite_task_view task.now) ∷ [])
-            (state self.old)) };
+        ensures cite { IfOk result (λ c. (way : Way) → agrees self.new way
+            → c ≡ (state self.old way).cite (cite_task_view task.now)) }
+        ensures asked { OnOk result ((way : Way) → agrees self.new way
+            → state self.new way ≡ asked_for (cite_task (cite_task_view task.now) ∷ [])
+            (state self.old way)) }
+        ensures agreed { OnOk result ((way : Way) → agrees self.new way → agrees self.old way) };
 
     /// Writes an item of the bibliography; `None` where its style has none.
     ///
@@ -61,10 +76,12 @@ pub trait CiteWriter<T: EntryLike, P> {
         alloc: Global,
         task: &ItemTask<'_, '_, T, P>,
     ) -> Result<Option<ElemChildren>, Self::Error>
-        ensures item { IfOk result (λ i. i ≡ (state self.old).item (item_task_view task.now)) }
-        ensures asked { OnOk result
-            (state self.new ≡ asked_for (item_task (item_task_view task.now) ∷ [])
-            (state self.old)) };
+        ensures item { IfOk result (λ i. (way : Way) → agrees self.new way
+            → i ≡ (state self.old way).item (item_task_view task.now)) }
+        ensures asked { OnOk result ((way : Way) → agrees self.new way
+            → state self.new way ≡ asked_for (item_task (item_task_view task.now) ∷ [])
+            (state self.old way)) }
+        ensures agreed { OnOk result ((way : Way) → agrees self.new way → agrees self.old way) };
 
     /// Writes a date.
     ///
@@ -76,11 +93,16 @@ pub trait CiteWriter<T: EntryLike, P> {
         alloc: Global,
         task: &DateTask<'_, T>,
     ) -> Result<ElemChildren, Self::Error>
-        ensures date { IfOk result (λ d. d ≡ (state self.old).date (date_task_view task.now)) }
-        ensures asked { OnOk result
-            (state self.new ≡ asked_for (date_task (date_task_view task.now) ∷ [])
-            (state self.old)) };
+        ensures date { IfOk result (λ d. (way : Way) → agrees self.new way
+            → d ≡ (state self.old way).date (date_task_view task.now)) }
+        ensures asked { OnOk result ((way : Way) → agrees self.new way
+            → state self.new way ≡ asked_for (date_task (date_task_view task.now) ∷ [])
+            (state self.old way)) }
+        ensures agreed { OnOk result ((way : Way) → agrees self.new way → agrees self.old way) };
 
-    ghost equal_written_equally: { (w : Self) (a : T) (b : T) → T.eq a b ≡ true
-        → AreWrittenEqually (state w) a b };
+    ghost equal_written_equally: { (w : Self) (way : Way) (a : T) (b : T) → T.eq a b ≡ true
+        → AreWrittenEqually (state w way) a b };
+
+    /// There is a way with which it agrees.
+    ghost some_way: { (w : Self) → (way : Way) × agrees w way };
 }

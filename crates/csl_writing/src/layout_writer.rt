@@ -29,13 +29,18 @@ impl LayoutWriter {
 pub enum NoNote {}
 
 impl<T: EntryLike, P> CiteWriter<T, P> for LayoutWriter {
+    ghost use Rattle.std.specs.Prelude.{⊤};
     ghost use Rattle.csl_writing.specs.LayoutWriting.{layout_state, layout_writes_equally};
 
     type Error = AllocError;
 
     type Note = NoNote;
 
-    ghost state = { λ _. layout_state T.answers };
+    ghost Way = { ⊤ };
+
+    ghost agrees = { λ _ _. ⊤ };
+
+    ghost state = { λ _ _. layout_state T.answers };
 
     fn write_cite(
         &mut self,
@@ -71,5 +76,8 @@ impl<T: EntryLike, P> CiteWriter<T, P> for LayoutWriter {
         date_text(&task.source, alloc, task.entry, task.suffix)
     }
 
-    ghost equal_written_equally = { λ _ a b e. layout_writes_equally T.answers a b (T.equal_answer_equally a b e) };
+    ghost equal_written_equally = { λ _ _ a b e. layout_writes_equally T.answers a b
+        (T.equal_answer_equally a b e) };
+
+    ghost some_way = { λ _. (tt, tt) };
 }

@@ -210,6 +210,6 @@ fn placed(
         }
         AnswerError::StyleTooLong => refused(alloc, options.style.as_str(), &error),
         AnswerError::OutOfMemory => Ok(CommandError::OutOfMemory),
-        AnswerError::TooManyItems | AnswerError::Unsettled => Ok(CommandError::Answer(error)),
+        AnswerError::TooManyItems => Ok(CommandError::Answer(error)),
     }
 }

@@ -61,7 +61,6 @@ fn answer_status(error: &AnswerError) -> u8 {
         AnswerError::NoReference { .. } | AnswerError::StyleTooLong => 2,
         AnswerError::TooManyItems => 4,
         AnswerError::OutOfMemory => 5,
-        AnswerError::Unsettled => 9,
     }
 }
 

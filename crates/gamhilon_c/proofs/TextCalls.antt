@@ -27,7 +27,6 @@ module _ (code : ℕ) (before after : List ℕ) (needed : ℕ) where
   refused : (e : CallError) → code ≡ status e → after ≡ before → needed ≡ 0 → HandsText code before after needed
   refused (errors.Fault fault) s same none = record { answered = λ c. absurd (omega arith); too_small = λ c. absurd (omega arith); kept = λ c. same; nothing_needed = λ c d. none }
   refused errors.TooManyItems s same none = record { answered = λ c. absurd (omega arith); too_small = λ c. absurd (omega arith); kept = λ c. same; nothing_needed = λ c d. none }
-  refused errors.Unsettled s same none = record { answered = λ c. absurd (omega arith); too_small = λ c. absurd (omega arith); kept = λ c. same; nothing_needed = λ c d. none }
   refused errors.OutOfMemory s same none = record { answered = λ c. absurd (omega arith); too_small = λ c. absurd (omega arith); kept = λ c. same; nothing_needed = λ c d. none }
 
   pub hands_text : (text : Result (String Global) CallError) → HandsOutOfTexts text code before after needed → HandsText code before after needed
@@ -42,13 +41,12 @@ module _ (code : ℕ) (before after : List ℕ) (needed : ℕ) where
 
   cite_placed : (code ≡ 0) ⊎ (code ≡ 6) → IsCiteStatus code
   cite_placed (inl z) = inl z
-  cite_placed (inr z) = inr (inr (inr (inr (inl z))))
+  cite_placed (inr z) = inr (inr (inr (inr z)))
 
   cite_refused : (e : CallError) → code ≡ status e → IsCiteStatus code
   cite_refused (errors.Fault fault) s = inr (inl s)
   cite_refused errors.TooManyItems s = inr (inr (inl s))
   cite_refused errors.OutOfMemory s = inr (inr (inr (inl s)))
-  cite_refused errors.Unsettled s = inr (inr (inr (inr (inr s))))
 
   pub cite_status : (text : Result (String Global) CallError) → HandsOutOfTexts text code before after needed → IsCiteStatus code
   cite_status (Ok text) h = cite_placed (placed_status (string_bytes text) h)

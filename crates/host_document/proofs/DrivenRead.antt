@@ -5,7 +5,7 @@ use Rattle.serde_json.specs.Data.{Data}
 use Rattle.csl_style_values.specs.Style.{LocaleValue, StyleValue}
 use Rattle.csl_values.specs.declared.entry.PlainEntry.{PlainEntry}
 use Rattle.csl_writers.specs.declared.cite.Cite.{Cite}
-use Rattle.host_table.specs.declared.key.TaskKey.{TaskKey}
+use Rattle.host_memo.specs.declared.key.TaskKey.{TaskKey}
 use Rattle.json_document.specs.Entries.{entry_form, entry_named}
 use Rattle.json_document.specs.Form.{Asked, Document, asked_form, document_of}
 use Rattle.json_styles.specs.Styles.{NamedStyle, style_named}

@@ -5,7 +5,7 @@ use Rattle.csl_values.specs.declared.entry.PlainEntry.{PlainEntry}
 use Rattle.csl_driver.specs.Answer.{Job}
 use Rattle.csl_driver.specs.Driver.{Driver}
 use Rattle.csl_passes.specs.Request.{Wanted}
-use Rattle.host_table.specs.declared.key.TaskKey.{TaskKey}
+use Rattle.host_memo.specs.declared.key.TaskKey.{TaskKey}
 use Rattle.csl_writers.specs.declared.cite.Cite.{Cite}
 use Rattle.json_document.specs.Form.{Document}
 use Rattle.json_document.specs.declared.rounds.Rounds.{Rounds}

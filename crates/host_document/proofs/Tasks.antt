@@ -3,7 +3,7 @@ use Rattle.std.proofs.Common.{◌≡◌, ◌<◌, ◌≤◌, ◌+◌, ℕ, List,
 use Rattle.std.proofs.lemmas.List.{drop_more, at_drop_all}
 use Rattle.serde_json.specs.View.{items_of}
 use Rattle.serde_json.specs.Written.{comma_if, compact_text, items_text}
-use Rattle.host_table.specs.declared.key.TaskKey.{TaskKey}
+use Rattle.host_memo.specs.declared.key.TaskKey.{TaskKey}
 use Rattle.json_tasks.specs.TaskData.{task_data}
 
 -- the text of those that are left

@@ -13,7 +13,7 @@ use Rattle.csl_driver.specs.declared.account.Account.{Account}
 use Rattle.csl_driver.specs.declared.csl_account.CslAccount.{CslAccount}
 use Rattle.json_answer.specs.AnswerData.{answer_data}
 use Rattle.csl_writers.specs.declared.cite.Cite.{Cite}
-use Rattle.host_table.specs.declared.key.TaskKey.{TaskKey}
+use Rattle.host_memo.specs.declared.key.TaskKey.{TaskKey}
 use Rattle.host_driver.specs.Driven.{IsCslDriven, IsDriven}
 use Rattle.host_driver.specs.declared.drive.Driven.{Driven}
 use Rattle.host_driver.specs.declared.drive.Driven.TheVariants as results

@@ -2,7 +2,7 @@
 use Rattle.std.specs.Prelude.{ℕ, List, [], ◌∷◌, Option, Some, None, codes}
 use Rattle.serde_json.specs.Data.{Data}
 use Rattle.csl_values.specs.declared.entry.PlainEntry.{PlainEntry}
-use Rattle.host_table.specs.declared.key.TaskKey.{TaskKey}
+use Rattle.host_memo.specs.declared.key.TaskKey.{TaskKey}
 use Rattle.csl_writers.specs.declared.cite.Cite.{Cite}
 use Rattle.json_values.specs.Words.{◌>>=◌, object_with, items_of_key, optional}
 use Rattle.json_styles.specs.Styles.{NamedStyle, style_named}

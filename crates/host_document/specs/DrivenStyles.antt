@@ -9,7 +9,7 @@ use Rattle.csl_values.specs.declared.formatting.StyleFormatting.{StyleFormatting
 use Rattle.csl_style_values.specs.declared.style.DisambiguationRule.{DisambiguationRule}
 use Rattle.csl_style_values.specs.declared.style.StyleClass.{StyleClass}
 use Rattle.csl_style_values.specs.declared.style.SubsequentAuthorSubstituteRule.{SubsequentAuthorSubstituteRule}
-use Rattle.host_table.specs.HostStyle.{one_text}
+use Rattle.host_memo.specs.HostStyle.{one_text}
 use Rattle.json_values.specs.Names.{one_of}
 use Rattle.json_values.specs.Tables.{given_name_rules, collapses, second_field_aligns, substitute_rules, classes}
 use Rattle.json_values.specs.Words.{◌>>=◌, object_with, required, optional, where_present, flag, member_form, whole}

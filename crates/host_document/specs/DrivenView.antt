@@ -1,7 +1,7 @@
 -- The driven document that a value of the program stands for; none where an index of its job points
 -- to nothing.
 use Rattle.std.specs.Prelude.{Option, Some}
-use Rattle.host_table.specs.Table.{found}
+use Rattle.host_memo.specs.Written.{found}
 use Rattle.json_values.specs.Words.{◌>>=◌}
 use Rattle.cite_document.specs.DocumentView.{document_view}
 use Rattle.host_document.specs.DrivenForm as form

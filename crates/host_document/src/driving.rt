@@ -3,7 +3,7 @@ ghost use Rattle.std.specs.Prelude.{◌≡◌, IfErr, IfOk, IsSome, MatchOption,
 ghost use Rattle.serde_json.specs.View.{view};
 ghost use Rattle.csl_driver.specs.JobView.{job_of};
 ghost use Rattle.csl_driver.specs.Rings.{Refuses};
-ghost use Rattle.host_table.specs.Table.{found};
+ghost use Rattle.host_memo.specs.Written.{found};
 ghost use Rattle.json_document.specs.Faults.{FaultsIn, IsFaultIn};
 ghost use Rattle.json_document.specs.Form.{value_in};
 ghost use Rattle.json_document.specs.Indexes.{ReadsAll};
@@ -27,7 +27,7 @@ use csl_driver::request::BibliographyRequest;
 use csl_round_laws::mode::RoundMode;
 use csl_styles::terms::TermTables;
 use host_driver::drive::{drive_by, drive_csl};
-use host_table::table::Table;
+use host_memo::table::Table;
 use json_document::document::{job_in, read_value};
 use json_document::entries::entries_of;
 use json_document::finders::found_styles;

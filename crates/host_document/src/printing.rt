@@ -8,7 +8,7 @@ ghost use Rattle.host_document.specs.Drive.{answer_text, driven_text, missing_te
 
 use csl_assembly::rendered::Rendered;
 use host_driver::drive::Driven;
-use host_table::key::TaskKey;
+use host_memo::key::TaskKey;
 use json_answer::printing::print_json;
 use json_tasks::printing::print_task;
 use std::alloc::{AllocError, Global};

@@ -1,13 +1,13 @@
 //! Reading the parts of a driven document.
 ghost use Rattle.std.specs.Prelude.{◌≡◌, IfOk};
 ghost use Rattle.serde_json.specs.View.{view};
-ghost use Rattle.host_table.specs.Table.{found};
+ghost use Rattle.host_memo.specs.Written.{found};
 ghost use Rattle.json_styles.specs.NamedStyleView.{named_styles_view};
 ghost use Rattle.json_values.specs.Reads.{Faults, Reads};
 ghost use Rattle.host_document.specs.DrivenForm.{driven_top_form, written_at};
 
 use csl_base::entry::PlainEntry;
-use host_table::table::Table;
+use host_memo::table::Table;
 use indexmap::IndexMap;
 use json_styles::styles::NamedStyle;
 use json_tasks::written::table_of;

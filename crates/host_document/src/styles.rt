@@ -12,7 +12,7 @@ ghost use Rattle.csl_style_values.specs.StyleView.{
   bibliography_view,
   style_view,
 };
-ghost use Rattle.host_table.specs.HostStyle.{one_text};
+ghost use Rattle.host_memo.specs.HostStyle.{one_text};
 ghost use Rattle.json_values.specs.Reads.{Faults, Reads};
 ghost use Rattle.json_values.specs.Words.{member_form, object_with, optional, where_present};
 ghost use Rattle.json_styles.specs.NamedStyleView.{named_style_view, named_styles_view};
@@ -37,7 +37,7 @@ use csl_base::style::{
     Bibliography, Citation, DisambiguationRule, IndependentStyle, Layout, StyleClass, StyleInfo,
     StyleSettings, SubsequentAuthorSubstituteRule,
 };
-use host_table::host_style::named;
+use host_memo::host_style::named;
 use json_styles::styles::NamedStyle;
 use json_values::error::ReadError;
 use json_values::fault::Wanted;

@@ -10,11 +10,11 @@ use Rattle.csl_driver.specs.declared.account.Account.{Account}
 use Rattle.csl_driver.specs.declared.csl_account.CslAccount.{CslAccount}
 use Rattle.csl_assembly.specs.declared.rendered.Rendered.{Rendered}
 use Rattle.csl_round_laws.specs.declared.mode.RoundMode.{RoundMode}
-use Rattle.host_table.specs.Keys.{stage, task_key}
+use Rattle.host_memo.specs.Keys.{stage, task_key}
 use Rattle.host_table.specs.Table.{IsMissingOf, table_writing}
 use Rattle.host_driver.specs.declared.drive.Driven.{Driven}
 use Rattle.host_driver.specs.declared.drive.Driven.TheVariants as results
-use Rattle.host_table.specs.declared.key.TaskKey.{TaskKey}
+use Rattle.host_memo.specs.declared.key.TaskKey.{TaskKey}
 use Rattle.csl_writers.specs.Tasks.{TaskValue}
 use Rattle.csl_writers.specs.declared.cite.Cite.{Cite}
 

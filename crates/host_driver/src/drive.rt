@@ -3,7 +3,7 @@ ghost use Rattle.std.specs.Prelude.{IfErr, IfOk};
 ghost use Rattle.csl_driver.specs.JobView.{job_of};
 ghost use Rattle.csl_driver.specs.Rings.{Refuses};
 ghost use Rattle.host_driver.specs.Driven.{IsCslDriven, IsDriven};
-ghost use Rattle.host_table.specs.Table.{found};
+ghost use Rattle.host_memo.specs.Written.{found};
 
 use csl_base::entry::EntryLike;
 use csl_driver::account::Account;
@@ -13,9 +13,10 @@ use csl_driver::error::DriverError;
 use csl_driver::rendered::Rendered;
 use csl_passes::request::BibliographyRequest;
 use csl_round_laws::mode::RoundMode;
-use host_table::key::TaskKey;
-use host_table::laws::key_equality_decides;
-use host_table::table::{Table, TableWriter};
+use host_memo::key::TaskKey;
+use host_memo::laws::key_equality_decides;
+use host_memo::table::Table;
+use host_table::table::TableWriter;
 use indexmap::IndexSet;
 use std::alloc::Global;
 

@@ -1,7 +1,5 @@
-//! A driver over a source: code that writes cites, of which nothing has to be specified. It fills a
-//! table until that has all that is asked for, and the answer is the specified one with what the
-//! table has.
+//! A driver over a source: code that writes texts, of which nothing has to be specified. It is
+//! asked once for each thing, and the answer is the specified one with what it wrote.
 #![tactic(auto)]
 
 pub mod filling;
-pub mod source;

@@ -6,9 +6,10 @@ use Rattle.std.specs.List.{list_any}
 use Rattle.std.proofs.lemmas.List.Elements.{All-append, All-cons, All-nil, Contains-append_right}
 use Rattle.indexmap.specs.IndexSet.{insert_key}
 use Rattle.csl_values.specs.Answers.{Answers}
-use Rattle.host_table.specs.Keys.{task_key}
-use Rattle.host_table.specs.Table.{IsMissingOf, is_earlier, is_later, kept_beside, key_eq, note_once}
-use Rattle.host_table.specs.declared.key.TaskKey.{TaskKey}
+use Rattle.host_memo.specs.Keys.{task_key}
+use Rattle.host_memo.specs.Written.{key_eq}
+use Rattle.host_table.specs.Table.{IsMissingOf, is_earlier, is_later, kept_beside, note_once}
+use Rattle.host_memo.specs.declared.key.TaskKey.{TaskKey}
 use Rattle.csl_writers.specs.Tasks.{TaskValue}
 use Rattle.csl_writers.specs.Writing.{noted_all}
 use Rattle.csl_writers.specs.declared.cite.Cite.{Cite}

@@ -1,4 +1,2 @@
-pub mod HostStyle
-pub mod Keys
 pub mod Table
 pub mod TableEqual

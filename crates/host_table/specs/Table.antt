@@ -1,33 +1,14 @@
 -- What is written from a table, and what is noted.
-use Rattle.std.specs.Prelude.{◌≡◌, ◌||◌, Bool, false, List, [], ◌∷◌, Option, None, Some, Contains, is_some, nat_lt, unwrap_or}
+use Rattle.std.specs.Prelude.{◌≡◌, ◌||◌, Bool, false, List, [], ◌∷◌, Option, None, Some, Contains, is_some, nat_lt}
 use Rattle.std.specs.Bool.{if◌then◌else◌}
-use Rattle.std.specs.HashMap.{HashMap, get}
 use Rattle.indexmap.specs.IndexSet.{insert_key}
 use Rattle.csl_values.specs.Answers.{Answers}
-use Rattle.csl_lookup.specs.declared.state.IdentifierUsage.{IdentifierUsage}
-use Rattle.host_table.specs.Keys.{cite_key, date_key, item_key, stage, task_key}
-use Rattle.host_table.specs.contracts.key.TaskKeyPartialEq.TheImpl as key_equality
-use Rattle.host_table.specs.declared.key.TaskKey.{TaskKey}
+use Rattle.host_memo.specs.Keys.{cite_key, date_key, item_key, stage, task_key}
+use Rattle.host_memo.specs.Written.{key_eq, written_as}
+use Rattle.host_memo.specs.declared.key.TaskKey.{TaskKey}
 use Rattle.csl_writers.specs.Tasks.{TaskValue}
 use Rattle.csl_writers.specs.Writing.{Writing, WriterState, writing_of}
 use Rattle.csl_writers.specs.declared.cite.Cite.{Cite}
-
--- `==` of keys
-abbrev pub key_eq : TaskKey → TaskKey → Bool
-key_eq = (key_equality.ghosts).eq
-
--- what a map has for a key
-abbrev pub found : {S : Type 0} → HashMap TaskKey Cite S → TaskKey → Option Cite
-found map key = get key_eq map key
-
--- what was written; an empty tree where nothing was
-abbrev pub written_as : Option Cite → Cite
-written_as written = unwrap_or written (record {
-  children = [];
-  checked_disambiguate = false;
-  first_name = None;
-  identifier_usage = IdentifierUsage.None;
-})
 
 -- the first of these is of an earlier stage
 abbrev pub is_later : List TaskKey → TaskKey → Bool

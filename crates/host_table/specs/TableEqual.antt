@@ -2,11 +2,12 @@
 use Rattle.std.specs.Prelude.{◌≡◌, List, Option, Some, None}
 use Rattle.std.proofs.Common.{ap}
 use Rattle.csl_values.specs.Answers.{Answers}
-use Rattle.host_table.specs.Keys.{key_of_part, standing_of}
-use Rattle.host_table.specs.Table.{table_state, written_as}
-use Rattle.host_table.specs.declared.key.TaskKey.{TaskKey}
-use Rattle.host_table.specs.declared.key.TaskPart.{TaskPart}
-use Rattle.host_table.specs.declared.key.TaskPart.TheVariants as parts
+use Rattle.host_memo.specs.Keys.{key_of_part, standing_of}
+use Rattle.host_memo.specs.Written.{written_as}
+use Rattle.host_table.specs.Table.{table_state}
+use Rattle.host_memo.specs.declared.key.TaskKey.{TaskKey}
+use Rattle.host_memo.specs.declared.key.TaskPart.{TaskPart}
+use Rattle.host_memo.specs.declared.key.TaskPart.TheVariants as parts
 use Rattle.csl_writers.specs.Writing.{AreWrittenEqually}
 use Rattle.csl_writers.specs.declared.cite.Cite.{Cite}
 

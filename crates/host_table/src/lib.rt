@@ -1,7 +1,4 @@
 //! A writer that answers from a table of what a host has written before.
 #![tactic(auto)]
 
-pub mod host_style;
-pub mod key;
-pub mod laws;
 pub mod table;

@@ -1,20 +1,17 @@
 //! The writer that answers from a table.
-ghost use Rattle.std.specs.Prelude.{◌≡◌, IfOk, None};
-ghost use Rattle.host_table.specs.Table.{written_as};
+ghost use Rattle.std.specs.Prelude.{◌≡◌, None};
+ghost use Rattle.host_memo.specs.Written.{written_as};
 
-use crate::key::{TaskKey, cite_key, date_key, item_key};
 use csl_base::elem::ElemChildren;
 use csl_base::entry::EntryLike;
 use csl_lookup::state::IdentifierUsage;
 use csl_writers::cite::Cite;
 use csl_writers::task::{CiteTask, DateTask, ItemTask};
 use csl_writers::writer::CiteWriter;
-use indexmap::{IndexMap, IndexSet};
+use host_memo::key::{TaskKey, cite_key, date_key, item_key};
+use host_memo::table::{Table, copied};
+use indexmap::IndexSet;
 use std::alloc::{AllocError, Global};
-
-/// What a host has written, by what it was asked for. Of an item and of a date the tree alone
-/// counts.
-pub type Table = IndexMap<TaskKey, Cite>;
 
 /// Answers from a table that it borrows. What the table lacks is answered by an empty tree, and
 /// noted once; but only what is of the earliest stage of all that is missing stays noted, since
@@ -23,22 +20,6 @@ pub type Table = IndexMap<TaskKey, Cite>;
 pub struct TableWriter<'t> {
     pub written: &'t Table,
     pub missing: IndexSet<TaskKey>,
-}
-
-/// A copy of what was written.
-fn copied(cite: &Cite) -> Result<Cite, AllocError>
-    ensures { IfOk result (λ c. c ≡ cite.now) }
-{
-    let first_name = match &cite.first_name {
-        Some(names) => Some(names.clone()?),
-        None => None,
-    };
-    Ok(Cite {
-        children: cite.children.clone()?,
-        checked_disambiguate: cite.checked_disambiguate,
-        first_name,
-        identifier_usage: cite.identifier_usage,
-    })
 }
 
 /// Nothing: an empty tree.
@@ -55,7 +36,8 @@ fn nothing(alloc: Global) -> Cite
 
 impl<'t> TableWriter<'t> {
     ghost use Rattle.std.specs.Prelude.{◌≡◌, IfOk, OnOk, []};
-    ghost use Rattle.host_table.specs.Table.{found, is_earlier, is_later, note_once, written_as};
+    ghost use Rattle.host_memo.specs.Written.{found, written_as};
+    ghost use Rattle.host_table.specs.Table.{is_earlier, is_later, note_once};
 
     /// A writer that has noted nothing yet.
     pub fn new(alloc: Global, written: &'t Table) -> TableWriter<'t>
@@ -112,14 +94,20 @@ impl<'t> TableWriter<'t> {
 }
 
 impl<'t, T: EntryLike, P> CiteWriter<T, P> for TableWriter<'t> {
-    ghost use Rattle.host_table.specs.Table.{found, table_state};
+    ghost use Rattle.std.specs.Prelude.{⊤};
+    ghost use Rattle.host_memo.specs.Written.{found};
+    ghost use Rattle.host_table.specs.Table.{table_state};
     ghost use Rattle.host_table.specs.TableEqual.{table_writes_equally};
 
     type Error = AllocError;
 
     type Note = TaskKey;
 
-    ghost state = { λ w. table_state (found w.written.now) T.answers w.missing.keys };
+    ghost Way = { ⊤ };
+
+    ghost agrees = { λ _ _. ⊤ };
+
+    ghost state = { λ w _. table_state (found w.written.now) T.answers w.missing.keys };
 
     fn write_cite(
         &mut self,
@@ -147,6 +135,8 @@ impl<'t, T: EntryLike, P> CiteWriter<T, P> for TableWriter<'t> {
         Ok(date.children)
     }
 
-    ghost equal_written_equally = { λ w a b e. table_writes_equally (found w.written.now) T.answers w.missing.keys a b
-        (T.equal_answer_equally a b e) };
+    ghost equal_written_equally = { λ w _ a b e. table_writes_equally (found w.written.now)
+        T.answers w.missing.keys a b (T.equal_answer_equally a b e) };
+
+    ghost some_way = { λ _. (tt, tt) };
 }

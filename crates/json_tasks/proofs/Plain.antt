@@ -14,9 +14,9 @@ use Rattle.csl_lookup.specs.declared.means.Means.{Means}
 use Rattle.csl_lookup.specs.declared.purpose.CitePurpose.{CitePurpose}
 use Rattle.csl_lookup.specs.declared.state.CollapseVerdict.{CollapseVerdict}
 use Rattle.csl_lookup.specs.declared.state.DisambiguateState.{DisambiguateState}
-use Rattle.host_table.specs.declared.key.Standing.{Standing}
-use Rattle.host_table.specs.declared.key.TaskKey.{TaskKey}
-use Rattle.host_table.specs.declared.key.TaskPart.{TaskPart}
+use Rattle.host_memo.specs.declared.key.Standing.{Standing}
+use Rattle.host_memo.specs.declared.key.TaskKey.{TaskKey}
+use Rattle.host_memo.specs.declared.key.TaskPart.{TaskPart}
 use Rattle.json_tasks.specs.TaskNames.{form_name, purpose_name, repeats_name, usage_name, verdict_name}
 use Rattle.json_tasks.specs.TaskData.{Fields, put_if, put_fields, count_data, true_if, place_data, locator_data, names_data, state_data, means_fields, standing_fields, part_fields, key_fields, task_data}
 

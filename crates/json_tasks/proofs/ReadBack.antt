@@ -14,9 +14,9 @@ use Rattle.csl_lookup.specs.declared.state.CollapseVerdict.{CollapseVerdict}
 use Rattle.csl_lookup.specs.declared.state.DisambiguateState.{DisambiguateState}
 use Rattle.csl_lookup.specs.declared.state.IbidState.{IbidState}
 use Rattle.csl_lookup.specs.declared.state.IdentifierUsage.{IdentifierUsage}
-use Rattle.host_table.specs.declared.key.Standing.{Standing}
-use Rattle.host_table.specs.declared.key.TaskKey.{TaskKey}
-use Rattle.host_table.specs.declared.key.TaskPart.{TaskPart}
+use Rattle.host_memo.specs.declared.key.Standing.{Standing}
+use Rattle.host_memo.specs.declared.key.TaskKey.{TaskKey}
+use Rattle.host_memo.specs.declared.key.TaskPart.{TaskPart}
 use Rattle.csl_writers.specs.Tasks.{LastPlace}
 use Rattle.json_values.specs.Words.{first_of, is_one_of, object_with, required, optional, or_default, present, where_present, flag, all_items, whole}
 use Rattle.json_values.specs.Names.{one_of}

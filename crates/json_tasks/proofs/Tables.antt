@@ -8,9 +8,9 @@ use Rattle.std.specs.Map.{lookup}
 use Rattle.std.proofs.lemmas.Bool.{and_from}
 use Rattle.json_document.proofs.FirstKeyed.{first_of_none}
 use Rattle.csl_trees.specs.SameTree.{same_trees-Decides}
-use Rattle.host_table.specs.Table.{found, key_eq}
-use Rattle.host_table.specs.contracts.key.TaskKeyEq.TheImpl.Laws.{laws-law}
-use Rattle.host_table.specs.declared.key.TaskKey.{TaskKey}
+use Rattle.host_memo.specs.Written.{found, key_eq}
+use Rattle.host_memo.specs.contracts.key.TaskKeyEq.TheImpl.Laws.{laws-law}
+use Rattle.host_memo.specs.declared.key.TaskKey.{TaskKey}
 use Rattle.csl_writers.specs.declared.cite.Cite.{Cite}
 use Rattle.json_values.specs.Words.{first_of}
 use Rattle.json_tasks.specs.WrittenForm.{Written, first_written, has_tree, has_one_tree_each, table_of_written, with_first_tree}

@@ -6,7 +6,7 @@ use Rattle.serde_json.specs.Data.{Data}
 use Rattle.csl_style_values.specs.Style.{StyleValue}
 use Rattle.csl_style_values.specs.StyleView.{style_view}
 use Rattle.csl_values.specs.declared.entry.PlainEntry.{PlainEntry}
-use Rattle.host_table.specs.declared.key.TaskKey.{TaskKey}
+use Rattle.host_memo.specs.declared.key.TaskKey.{TaskKey}
 use Rattle.json_document.specs.Finders.{text_in}
 use Rattle.json_styles.specs.declared.styles.NamedStyle.{NamedStyle}
 use Rattle.json_values.specs.Words.{◌>>=◌}

@@ -1,7 +1,7 @@
 -- Tasks that read as what they were.
 use Rattle.std.specs.Prelude.{◌≡◌, ⊤, Some, None}
-use Rattle.host_table.specs.declared.key.TaskKey.{TaskKey}
-use Rattle.host_table.specs.declared.key.TaskPart.{TaskPart}
+use Rattle.host_memo.specs.declared.key.TaskKey.{TaskKey}
+use Rattle.host_memo.specs.declared.key.TaskPart.{TaskPart}
 use Rattle.csl_writers.specs.Tasks.{LastPlace}
 use Rattle.json_tasks.specs.TaskData.{task_data}
 use Rattle.json_tasks.specs.TaskForm.{key_form}

@@ -7,9 +7,9 @@ use Rattle.csl_values.specs.declared.names.NameDisambiguationProperties.{NameDis
 use Rattle.csl_values.specs.declared.taxonomy.Locator.{Locator}
 use Rattle.csl_lookup.specs.declared.means.Means.{Means}
 use Rattle.csl_lookup.specs.declared.state.DisambiguateState.{DisambiguateState}
-use Rattle.host_table.specs.declared.key.Standing.{Standing}
-use Rattle.host_table.specs.declared.key.TaskKey.{TaskKey}
-use Rattle.host_table.specs.declared.key.TaskPart.{TaskPart}
+use Rattle.host_memo.specs.declared.key.Standing.{Standing}
+use Rattle.host_memo.specs.declared.key.TaskKey.{TaskKey}
+use Rattle.host_memo.specs.declared.key.TaskPart.{TaskPart}
 use Rattle.json_tasks.specs.TaskNames.{form_name, locator_name, purpose_name, repeats_name, usage_name, verdict_name}
 
 -- keys and what stands under them, if anything does

@@ -8,9 +8,9 @@ use Rattle.csl_values.specs.declared.taxonomy.Locator.{Locator}
 use Rattle.csl_lookup.specs.declared.state.DisambiguateState.{DisambiguateState}
 use Rattle.csl_lookup.specs.declared.state.IbidState.{IbidState}
 use Rattle.csl_lookup.specs.declared.state.IdentifierUsage.{IdentifierUsage}
-use Rattle.host_table.specs.declared.key.Standing.{Standing}
-use Rattle.host_table.specs.declared.key.TaskKey.{TaskKey}
-use Rattle.host_table.specs.declared.key.TaskPart.{TaskPart}
+use Rattle.host_memo.specs.declared.key.Standing.{Standing}
+use Rattle.host_memo.specs.declared.key.TaskKey.{TaskKey}
+use Rattle.host_memo.specs.declared.key.TaskPart.{TaskPart}
 use Rattle.json_values.specs.Words.{◌>>=◌, object_with, required, optional, where_present, flag, items_of_key, whole}
 use Rattle.json_values.specs.Names.{one_of}
 use Rattle.json_values.specs.Tables.{locators, purposes}

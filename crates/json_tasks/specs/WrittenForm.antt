@@ -7,8 +7,8 @@ use Rattle.csl_trees.specs.SameTree.{same_trees}
 use Rattle.csl_values.specs.declared.entry.PlainEntry.{PlainEntry}
 use Rattle.csl_values.specs.declared.names.NameDisambiguationProperties.{NameDisambiguationProperties}
 use Rattle.csl_lookup.specs.declared.state.IdentifierUsage.{IdentifierUsage}
-use Rattle.host_table.specs.Table.{key_eq}
-use Rattle.host_table.specs.declared.key.TaskKey.{TaskKey}
+use Rattle.host_memo.specs.Written.{key_eq}
+use Rattle.host_memo.specs.declared.key.TaskKey.{TaskKey}
 use Rattle.csl_writers.specs.declared.cite.Cite.{Cite}
 use Rattle.json_document.specs.Entries.{entry_named}
 use Rattle.json_styles.specs.Styles.{NamedStyle, style_named}

@@ -43,7 +43,7 @@ use csl_base::text::Text;
 use csl_lookup::means::Means;
 use csl_lookup::purpose::CitePurpose;
 use csl_lookup::state::{CollapseVerdict, DisambiguateState};
-use host_table::key::{Standing, TaskKey, TaskPart};
+use host_memo::key::{Standing, TaskKey, TaskPart};
 use serde_json::{Map, Value};
 use std::alloc::{AllocError, Global};
 

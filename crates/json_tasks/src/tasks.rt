@@ -32,7 +32,7 @@ use csl_base::taxonomy::Locator;
 use csl_base::text::Text;
 use csl_lookup::means::Means;
 use csl_lookup::state::{DisambiguateState, IbidState, IdentifierUsage};
-use host_table::key::{Standing, TaskKey, TaskPart};
+use host_memo::key::{Standing, TaskKey, TaskPart};
 use json_document::requests::locator_kind;
 use json_values::error::ReadError;
 use json_values::fault::Wanted;

@@ -1,10 +1,11 @@
 //! A document answered by the layouts of its styles, and again from a table of what these wrote, in
 //! styles that have a name in place of their layouts: answer and account have to be the same. Then
-//! each thing is taken out of the table, one at a time, and exactly that has to be missing; and a
-//! source that has what is in the table is asked for what an empty one lacks.
+//! each thing is taken out of the table, one at a time, and exactly that has to be missing; it is
+//! answered by a source that has what is in the table, which may be asked once for each thing; and
+//! a table that is empty at first gets what is missing until nothing is.
 
 use crate::costs::{Answer, Costs, Driver, finished_with, in_csl, in_rounds, is_same};
-use crate::filling::fill_from;
+use crate::filling::{drive_to_the_end, fill_from};
 use crate::hosting::host_styles;
 use crate::printing::print_answer;
 use crate::recording::Recorder;
@@ -19,7 +20,7 @@ use csl_driver::terms::TermTables;
 use csl_writers::writer::CiteWriter;
 use csl_writing::layout_writer::LayoutWriter;
 use host_driver::drive::{Driven, drive, drive_csl};
-use host_table::table::Table;
+use host_memo::table::Table;
 use json_document::document::Job;
 use json_document::finders::found_styles;
 use json_document::requests::Targets;
@@ -220,19 +221,31 @@ fn from_table(
     }
 }
 
-/// Takes each thing out of the table in turn, and then fills another one from it.
+/// Takes each thing out of the table in turn, and then answers by a source that has all of it.
 fn take_out_and_fill(
     asking: &Asking<'_, '_>,
     table: &mut Table,
     answer: &Answer<'_>,
 ) -> Result<Seen, RunError> {
     match take_each_out(asking, table)? {
-        Seen::Answer => fill_from(asking, table, answer),
+        Seen::Answer => fill_both_ways(asking, table, answer),
         seen => Ok(seen),
     }
 }
 
-/// Fills an empty table from this one so many times.
+/// Answers by a source that has what is in the table, and by a table that gets what it lacks.
+fn fill_both_ways(
+    asking: &Asking<'_, '_>,
+    table: &Table,
+    answer: &Answer<'_>,
+) -> Result<Seen, RunError> {
+    match fill_from(asking, table, answer)? {
+        Seen::Answer => drive_to_the_end(asking, table, answer),
+        seen => Ok(seen),
+    }
+}
+
+/// Answers it so many times by a source that has what is in the table.
 fn fill_often(
     asking: &Asking<'_, '_>,
     table: &Table,

@@ -2,7 +2,7 @@
 
 use cite_document::error::RunError;
 use csl_base::style::{Bibliography, IndependentStyle};
-use host_table::host_style::named;
+use host_memo::host_style::named;
 use json_document::document::value_of;
 use json_styles::styles::{NamedStyle, styles_of};
 use std::alloc::{AllocError, Global};

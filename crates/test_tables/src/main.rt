@@ -2,11 +2,11 @@
 //! styles that have a name in place of their layouts.
 //!
 //! The first line of standard input says what is done, and the document follows: `table` compares
-//! the answers, takes each thing out of the table, and fills another one from it; `finish N`,
-//! `drive N` and `fill N` make N answers by layouts, from the table, or by a source that has what
-//! is in it, for whoever measures how long these take. Before each call its name is written to
-//! standard error, and at the end a line that says what was seen; the exit status tells that too.
-//! The answer from the table goes to standard output.
+//! the answers, takes each thing out of the table, and answers by a source that has what is in it;
+//! `finish N`, `drive N` and `fill N` make N answers by layouts, from the table, or by that source,
+//! for whoever measures how long these take. Before each call its name is written to standard
+//! error, and at the end a line that says what was seen; the exit status says that too. The answer
+//! from the table goes to standard output, and so does a line on what is amiss.
 //!
 //! What owns much is dropped by name and at one place: that is a call, where the end of a scope has
 //! the proof go through all its parts.
@@ -75,6 +75,7 @@ fn main(rt: HostRuntime) -> ExitCode {
             ExitCode::SUCCESS
         }
         Ok(Seen::Amiss(what)) => {
+            let _ = println!(rt; "amiss: {what}");
             let _ = eprintln!(rt; "amiss: {what}");
             ExitCode::from(7)
         }

@@ -9,8 +9,8 @@ use csl_writers::cite::Cite;
 use csl_writers::task::{CiteTask, DateTask, ItemTask};
 use csl_writers::writer::CiteWriter;
 use csl_writing::layout_writer::{LayoutWriter, NoNote};
-use host_table::key::{TaskKey, cite_key, date_key, item_key};
-use host_table::table::Table;
+use host_memo::key::{TaskKey, cite_key, date_key, item_key};
+use host_memo::table::Table;
 use indexmap::IndexMap;
 use json_styles::styles::NamedStyle;
 use std::alloc::{AllocError, Global};
@@ -89,13 +89,18 @@ impl<'s> Recorder<'s> {
 }
 
 impl<'s, T: EntryLike, P> CiteWriter<T, P> for Recorder<'s> {
+    ghost use Rattle.std.specs.Prelude.{⊤};
     ghost use Rattle.csl_writing.specs.LayoutWriting.{layout_state, layout_writes_equally};
 
     type Error = AllocError;
 
     type Note = NoNote;
 
-    ghost state = { λ _. layout_state T.answers };
+    ghost Way = { ⊤ };
+
+    ghost agrees = { λ _ _. ⊤ };
+
+    ghost state = { λ _ _. layout_state T.answers };
 
     fn write_cite(
         &mut self,
@@ -139,5 +144,8 @@ impl<'s, T: EntryLike, P> CiteWriter<T, P> for Recorder<'s> {
         CiteWriter::<T, P>::write_date(&mut self.layouts, alloc, task)
     }
 
-    ghost equal_written_equally = { λ _ a b e. layout_writes_equally T.answers a b (T.equal_answer_equally a b e) };
+    ghost equal_written_equally = { λ _ _ a b e. layout_writes_equally T.answers a b
+        (T.equal_answer_equally a b e) };
+
+    ghost some_way = { λ _. (tt, tt) };
 }

@@ -5,8 +5,8 @@ use crate::recording::put_in;
 use crate::seen::Seen;
 use cite_document::error::RunError;
 use host_driver::drive::Driven;
-use host_table::key::TaskKey;
-use host_table::table::Table;
+use host_memo::key::TaskKey;
+use host_memo::table::Table;
 
 /// Whether the table lacks this and nothing else.
 fn lacks_alone(asking: &Asking<'_, '_>, table: &Table, key: &TaskKey) -> Result<bool, RunError> {

@@ -86,7 +86,7 @@ def test_a_text_that_is_wrong_has_its_place(made_up_texts):
 
 @pytest.mark.parametrize('status, kind', [
     (2, gamhilon.OutOfMemory), (4, gamhilon.NumberOverflow), (5, gamhilon.OutOfMemory),
-    (9, gamhilon.Unsettled), (17, RuntimeError),
+    (9, RuntimeError), (17, RuntimeError),
 ])
 def test_each_status_has_its_error(made_up_texts, status, kind):
     made_up_texts({'warnings': []}, status=status)

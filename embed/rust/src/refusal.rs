@@ -11,7 +11,6 @@ pub(crate) mod status {
     pub(crate) const BUFFER_TOO_SMALL: u32 = 6;
     pub(crate) const TOO_DEEP: u32 = 7;
     pub(crate) const TOO_MANY_ELEMENTS: u32 = 8;
-    pub(crate) const UNSETTLED: u32 = 9;
 }
 
 /// Where a document is wrong: its first fault.
@@ -53,8 +52,6 @@ pub enum Refusal {
     TooDeep,
     /// A layout has more elements than the limit.
     TooManyElements,
-    /// The cites can't be disambiguated. Of `cite` alone.
-    Unsettled,
     /// The library ended the call with a status that this crate doesn't know.
     Unknown(u32),
 }
@@ -69,7 +66,6 @@ impl Refusal {
             Refusal::OutOfMemory => status::OUT_OF_MEMORY,
             Refusal::TooDeep => status::TOO_DEEP,
             Refusal::TooManyElements => status::TOO_MANY_ELEMENTS,
-            Refusal::Unsettled => status::UNSETTLED,
             Refusal::Unknown(status) => *status,
         }
     }
@@ -81,7 +77,6 @@ impl Refusal {
             status::OUT_OF_MEMORY => Refusal::OutOfMemory,
             status::TOO_DEEP => Refusal::TooDeep,
             status::TOO_MANY_ELEMENTS => Refusal::TooManyElements,
-            status::UNSETTLED => Refusal::Unsettled,
             _ => Refusal::Unknown(status),
         }
     }
@@ -122,7 +117,6 @@ impl fmt::Display for Refusal {
             Refusal::OutOfMemory => f.write_str("memory was refused"),
             Refusal::TooDeep => f.write_str("the elements of a layout nest too deep"),
             Refusal::TooManyElements => f.write_str("a layout has too many elements"),
-            Refusal::Unsettled => f.write_str("the cites can't be disambiguated"),
             Refusal::Unknown(status) => {
                 write!(f, "the library ended with status {status}, which this crate does not know")
             }

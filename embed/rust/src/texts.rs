@@ -114,7 +114,7 @@ pub struct Findings {
 pub enum CiteError {
     /// A text is wrong.
     Text(Box<TextFault>),
-    /// Another reason: `NumberOverflow`, `OutOfMemory`, `Unsettled` or `Unknown`.
+    /// Another reason: `NumberOverflow`, `OutOfMemory` or `Unknown`.
     Refused(Refusal),
 }
 

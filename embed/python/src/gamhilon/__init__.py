@@ -36,8 +36,7 @@ from .answer import Answer, Bibliography, Citation, Item, Node, Tree, answer_of,
 from .citation_text import (CitationTextRefused, TextCitation, find_citations,
                             parse_citations)
 from .errors import (DocumentRefused, GamhilonError, LibraryMissing, LimitExceeded, MacroRing,
-                     NumberOverflow, OutOfMemory, Refused, TextRefused, TooDeep, TooManyElements,
-                     Unsettled)
+                     NumberOverflow, OutOfMemory, Refused, TextRefused, TooDeep, TooManyElements)
 from .html_writer import bibliography_to_html, style_sheet, to_html
 from .latex_writer import bibliography_to_latex, to_latex
 from .markdown_writer import bibliography_to_markdown, to_markdown
@@ -47,7 +46,7 @@ __all__ = [
     'Answer', 'Bibliography', 'Citation', 'CitationTextRefused', 'Document', 'DocumentRefused',
     'GamhilonError', 'Item', 'LibraryMissing', 'LimitExceeded', 'Limits', 'MacroRing', 'Missing',
     'Node', 'NumberOverflow', 'OutOfMemory', 'Refused', 'State', 'Task', 'TextCitation',
-    'TextFault', 'TextRefused', 'TextWarning', 'TooDeep', 'TooManyElements', 'Tree', 'Unsettled',
+    'TextFault', 'TextRefused', 'TextWarning', 'TooDeep', 'TooManyElements', 'Tree', 
     'Version', 'Writer', 'Written', '__version__', 'bibliography_to_html', 'bibliography_to_latex',
     'bibliography_to_markdown', 'check', 'cite', 'csl', 'csl_json', 'drive_once',
     'find_citations', 'markdown_pages', 'parse_citations', 'plain', 'print_document', 'print_json',
@@ -144,8 +143,8 @@ def cite(style: Union[str, bytes], items: Json, citations: Json, *,
         answer = gamhilon.cite(open('apa.csl').read(), items, [[{'id': 'doe99', 'locator': '4'}]])
 
     What is read otherwise than it stands in the texts is in `answer.warnings`. Raises TextRefused,
-    NumberOverflow, OutOfMemory or Unsettled, each a Refused, where there is no answer, and
-    LibraryMissing where there is no library, or one that is older than this call.
+    NumberOverflow or OutOfMemory, each a Refused, where there is no answer, and LibraryMissing
+    where there is no library, or one that is older than this call.
     """
     return cite_texts(texts_of(style, items, citations, locales, locale, nocite))
 

@@ -23,8 +23,7 @@ from .errors import LibraryMissing, Refused
 BAD_COMMAND_LINE, NO_LIBRARY = 64, 69
 ENDINGS = """exit status: 0 done; 1 reading or writing failed; 2 document refused, or a file that
 isn't of its form; 3 its macros call each other in a ring; 4 its citation numbers don't fit; 5 out
-of memory; 7 a layout nests deeper than --depth; 8 a layout has more elements than --elements; 9
-its cites can't be told apart; 11 texts differ (of diff and test); 64 not a command line; 69 the
+of memory; 7 a layout nests deeper than --depth; 8 a layout has more elements than --elements; 11 texts differ (of diff and test); 64 not a command line; 69 the
 library is missing, or what reads files of a form; 130 ended by Ctrl-C"""
 
 

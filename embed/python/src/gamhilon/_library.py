@@ -13,7 +13,7 @@ from typing import Any, Callable, List, NamedTuple, Optional, Tuple
 from . import _faults
 from ._limits import Limits
 from .errors import (DocumentRefused, LibraryMissing, MacroRing, NumberOverflow, OutOfMemory,
-                     TooDeep, TooManyElements, Unsettled)
+                     TooDeep, TooManyElements)
 
 HERE = os.path.dirname(os.path.abspath(__file__))
 NAME = 'libgamhilon.so'
@@ -146,8 +146,6 @@ class Library:
             return NumberOverflow("the citation numbers don't fit 64 bits")
         if status == OutOfMemory.status:
             return OutOfMemory('memory was refused')
-        if status == Unsettled.status:
-            return Unsettled("the cites can't be disambiguated")
         return RuntimeError(f'{NAME} ended a call with status {status}, '
                             'which this package does not know')
 

@@ -8,7 +8,6 @@ from .texts import TextFault, TextWarning
 __all__ = [
     'DocumentRefused', 'GamhilonError', 'LibraryMissing', 'LimitExceeded', 'MacroRing',
     'NumberOverflow', 'OutOfMemory', 'Refused', 'TextRefused', 'TooDeep', 'TooManyElements',
-    'Unsettled',
 ]
 
 
@@ -102,12 +101,6 @@ class TooManyElements(LimitExceeded):
     """A layout has more elements than the limit."""
 
     status = 8
-
-
-class Unsettled(Refused, RuntimeError):
-    """The cites of a document can't be told apart: what the driver asks for has no end."""
-
-    status = 9
 
 
 class LibraryMissing(GamhilonError, OSError):

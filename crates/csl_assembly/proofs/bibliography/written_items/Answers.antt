@@ -1,4 +1,4 @@
-use Rattle.std.proofs.Common.{◌≡◌, ◌+◌, ◌++◌, ◌∷◌, [], List, Option, Some, None, ap, drop, get_or, map, refl, sym, take, ◌∙◌}
+use Rattle.std.proofs.Common.{◌≡◌, ◌+◌, ◌++◌, ◌∷◌, [], List, Option, Some, None, ap, drop, get_or, map, refl, subst, sym, take, ◌∙◌}
 use Rattle.std.specs.List.{filter_map}
 use Rattle.std.specs.Prelude.{option_map, string_bytes}
 use Rattle.std.proofs.lemmas.List.{map-append}
@@ -28,32 +28,40 @@ loop-place-preserved g c =
     let place : Place = get_or firsts k (0, 0) in
     let found_at : Place → Option (ItemRender E P) = λ p. option_map (λ r. r.1) (cite_at (renders_view c.args.cites.now) p) in
     let source = wanted_source (wanted_view c.args.wanted.wanted.now) in
-    let old = desk (g.W.CiteWriter.state c.args.writer.now) c.args.counter.now in
-    let before = desk (g.W.CiteWriter.state c.loop-place.writer) c.loop-place.counter in
+    let Way = g.W.CiteWriter.Way in
+    let agrees = g.W.CiteWriter.agrees in
+    let state = g.W.CiteWriter.state in
+    let old = λ (way : Way). desk (state c.args.writer.now way) c.args.counter.now in
+    let before = λ (way : Way). desk (state c.loop-place.writer way) c.loop-place.counter in
     let was = c.loop-place.invariant in
     let task_of : ItemRender E P → TaskValue E P = λ i. item_task (item_of source i) in
     let asked : List (TaskValue E P) = map task_of (filter_map found_at (take k firsts)) in
-    let written = writing_of g.T.EntryLike.answers old.writer in
-    let writes = writing_of g.T.EntryLike.answers before.writer in
+    let written = λ (way : Way). writing_of g.T.EntryLike.answers (state c.args.writer.now way) in
+    let writes = λ (way : Way). writing_of g.T.EntryLike.answers (state c.loop-place.writer way) in
     elim c.match-cite_at.branch [
       | in-Some+in_ok-item+in_ok-push w ↦
           let first = item_view w.in-Some.first.now in
           let there : found_at place ≡ Some first = sym c.cite_at.ensures ∙ ap (option_map (λ i. item_view i.now)) w.in-Some.is in
           let made : Item = (w.in_ok-item.item.0, string_bytes w.in_ok-item.item.1) in
-          let item : made ≡ written_item written source first =
-          written_by_same (λ (v : Writing E P). written_item v source first) writes written made (writes-same g.T.EntryLike.answers asked old before was.asked) w.in_ok-item.ensures.item in
+          let now_ok = λ (way : Way) (ok : _). subst (λ v. agrees v way) w.writer-is ok in
+          let before_ok = λ (way : Way) (ok : _). w.in_ok-item.ensures.agreed way (now_ok way ok) in
+          let item = λ (way : Way) (ok : _). written_by_same (λ (v : Writing E P). written_item v source first) (writes way) (written way) made
+          (writes-same g.T.EntryLike.answers asked (old way) (before way) (was.asked way (before_ok way ok))) (w.in_ok-item.ensures.item way (now_ok way ok)) in
           record {
-            items = made-more found_at (written_item written source) firsts k (0, 0) place within refl (rendered_items_view c.loop-place.items.items) _ was.items first _ there
+            items = λ way ok. made-more found_at (written_item (written way) source) firsts k (0, 0) place within refl (rendered_items_view c.loop-place.items.items) _ (was.items way (before_ok way ok)) first _ there
                 (ap (λ v. rendered_items_view v.items) w.items-is ∙ ap rendered_items_view w.in_ok-push.ensures
-                ∙ map-append (λ p. (p.0, string_bytes p.1)) c.loop-place.items.items (w.in_ok-item.item ∷ []) ∙ ap (λ z. rendered_items_view c.loop-place.items.items ++ z ∷ []) item);
-            asked = (λ i. desk (g.W.CiteWriter.state (w.writer-is i)) (w.counter-is i))
-                ∙ asked-found firsts k (0, 0) place within refl task_of old before _ found_at first there was.asked w.in_ok-item.ensures.asked;
+                ∙ map-append (λ p. (p.0, string_bytes p.1)) c.loop-place.items.items (w.in_ok-item.item ∷ []) ∙ ap (λ z. rendered_items_view c.loop-place.items.items ++ z ∷ []) (item way ok));
+            asked = λ way ok. (λ i. desk (state (w.writer-is i) way) (w.counter-is i))
+                ∙ asked-found firsts k (0, 0) place within refl task_of (old way) (before way) _ found_at first there (was.asked way (before_ok way ok)) (w.in_ok-item.ensures.asked way (now_ok way ok));
+            agreed = λ way ok. was.agreed way (before_ok way ok);
           }
       | in_default w ↦
           let none : found_at place ≡ None = sym c.cite_at.ensures ∙ ap (option_map (λ i. item_view i.now)) w.in_default.is in
+          let before_ok = λ (way : Way) (ok : _). subst (λ v. agrees v way) w.writer-is ok in
           record {
-            items = ap (λ v. rendered_items_view v.items ++ map (written_item written source) (filter_map found_at (drop (k + 1) firsts))) w.items-is
-                ∙ made-none found_at (written_item written source) firsts k (0, 0) place within refl (rendered_items_view c.loop-place.items.items) _ was.items none;
-            asked = (λ i. desk (g.W.CiteWriter.state (w.writer-is i)) (w.counter-is i)) ∙ asked-none firsts k (0, 0) place within refl task_of old before before found_at none was.asked;
+            items = λ way ok. ap (λ v. rendered_items_view v.items ++ map (written_item (written way) source) (filter_map found_at (drop (k + 1) firsts))) w.items-is
+                ∙ made-none found_at (written_item (written way) source) firsts k (0, 0) place within refl (rendered_items_view c.loop-place.items.items) _ (was.items way (before_ok way ok)) none;
+            asked = λ way ok. (λ i. desk (state (w.writer-is i) way) (w.counter-is i)) ∙ asked-none firsts k (0, 0) place within refl task_of (old way) (before way) (before way) found_at none (was.asked way (before_ok way ok));
+            agreed = λ way ok. was.agreed way (before_ok way ok);
           }
     ]

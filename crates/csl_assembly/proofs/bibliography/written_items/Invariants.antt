@@ -11,9 +11,14 @@ use Rattle.csl_assembly.proofs.bibliography.written_items.Given as goal
 abbrev pub invariant-loop-place : goal.invariant-loop-place
 invariant-loop-place g l =
     let source = wanted_source (wanted_view l.wanted.wanted.now) in
-    let written = written_item (writing_of g.T.EntryLike.answers (g.W.CiteWriter.state l.fn.writer)) source in
+    let Way = g.W.CiteWriter.Way in
+    let agrees = g.W.CiteWriter.agrees in
+    let state = g.W.CiteWriter.state in
+    let written = λ (way : Way). written_item (writing_of g.T.EntryLike.answers (state l.fn.writer way)) source in
     record {
-      items : rendered_items_view l.items.items ++ map written (cites_at (renders_view l.cites) (drop l.place-index l.firsts)) ≡ map written (cites_at (renders_view l.cites) l.firsts);
-      asked : desk (g.W.CiteWriter.state l.writer) l.counter
-          ≡ after (bibliography_tasks source (cites_at (renders_view l.cites) (take l.place-index l.firsts))) (desk (g.W.CiteWriter.state l.fn.writer) l.fn.counter);
+      items : (way : Way) → agrees l.writer way
+          → rendered_items_view l.items.items ++ map (written way) (cites_at (renders_view l.cites) (drop l.place-index l.firsts)) ≡ map (written way) (cites_at (renders_view l.cites) l.firsts);
+      asked : (way : Way) → agrees l.writer way → desk (state l.writer way) l.counter
+          ≡ after (bibliography_tasks source (cites_at (renders_view l.cites) (take l.place-index l.firsts))) (desk (state l.fn.writer way) l.fn.counter);
+      agreed : (way : Way) → agrees l.writer way → agrees l.fn.writer way;
     }

@@ -15,10 +15,15 @@ invariant-loop-k g l =
     let source = wanted_source (wanted_view l.wanted.wanted.now) in
     let cites = renders_view l.cites in
     let pairs = zip l.firsts l.means in
-    let writing = writing_of g.T.EntryLike.answers (g.W.CiteWriter.state l.fn.writer) in
+    let Way = g.W.CiteWriter.Way in
+    let agrees = g.W.CiteWriter.agrees in
+    let state = g.W.CiteWriter.state in
+    let writing = λ (way : Way). writing_of g.T.EntryLike.answers (state l.fn.writer way) in
     record {
-      items : rendered_items_view l.items.items ++ map (λ p. item_by writing (task_by source p)) (filter_map (cite_with_means cites) (drop l.k pairs))
-          ≡ map (λ p. item_by writing (task_by source p)) (filter_map (cite_with_means cites) pairs);
-      asked : desk (g.W.CiteWriter.state l.writer) l.counter
-          ≡ after (tasks_by_means source (filter_map (cite_with_means cites) (take l.k pairs))) (desk (g.W.CiteWriter.state l.fn.writer) l.fn.counter);
+      items : (way : Way) → agrees l.writer way
+          → rendered_items_view l.items.items ++ map (λ p. item_by (writing way) (task_by source p)) (filter_map (cite_with_means cites) (drop l.k pairs))
+          ≡ map (λ p. item_by (writing way) (task_by source p)) (filter_map (cite_with_means cites) pairs);
+      asked : (way : Way) → agrees l.writer way → desk (state l.writer way) l.counter
+          ≡ after (tasks_by_means source (filter_map (cite_with_means cites) (take l.k pairs))) (desk (state l.fn.writer way) l.fn.counter);
+      agreed : (way : Way) → agrees l.writer way → agrees l.fn.writer way;
     }

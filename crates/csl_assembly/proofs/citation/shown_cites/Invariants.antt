@@ -11,10 +11,14 @@ use Rattle.csl_assembly.proofs.citation.shown_cites.Given as goal
 abbrev pub invariant-loop-item : goal.invariant-loop-item
 invariant-loop-item g l =
     let request = request_view l.request.request.now in
-    let writing = writing_of g.T.EntryLike.answers (g.W.CiteWriter.state l.fn.writer) in
-    let one = shown_cite writing l.index (source_of request) request.style.citation.layout in
+    let Way = g.W.CiteWriter.Way in
+    let agrees = g.W.CiteWriter.agrees in
+    let state = g.W.CiteWriter.state in
+    let one = λ (way : Way). shown_cite (writing_of g.T.EntryLike.answers (state l.fn.writer way)) l.index (source_of request) request.style.citation.layout in
     record {
-      cites : shown_views l.cites.items ++ map one (shown (items_view (drop l.item-index l.items))) ≡ map one (shown (items_view l.items));
-      asked : desk (g.W.CiteWriter.state l.writer) l.counter
-          ≡ after (citation_tasks l.index (record { items = items_view (take l.item-index l.items); request = request })) (desk (g.W.CiteWriter.state l.fn.writer) l.fn.counter);
+      cites : (way : Way) → agrees l.writer way
+          → shown_views l.cites.items ++ map (one way) (shown (items_view (drop l.item-index l.items))) ≡ map (one way) (shown (items_view l.items));
+      asked : (way : Way) → agrees l.writer way → desk (state l.writer way) l.counter
+          ≡ after (citation_tasks l.index (record { items = items_view (take l.item-index l.items); request = request })) (desk (state l.fn.writer way) l.fn.counter);
+      agreed : (way : Way) → agrees l.writer way → agrees l.fn.writer way;
     }

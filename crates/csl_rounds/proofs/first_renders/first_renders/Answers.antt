@@ -26,24 +26,28 @@ first_renders_of-requires g c =
     }
 
 pub loop-k-init : goal.loop-k-init
-loop-k-init g c = record { made_is = c.in_ok-cites.ensures; asked = refl }
+loop-k-init g c = record { made = λ way ok. record { made_is = c.in_ok-cites.ensures; asked = refl }; agreed = λ way ok. ok }
 
 pub loop-k-preserved : goal.loop-k-preserved
 loop-k-preserved g c =
     let k = c.loop-k.k in
     let requests = requests_view c.args.requests.requests.now in
     let request = request_view c.at.result.request.now in
-    one-made g.T.EntryLike.answers first_renders_of first_tasks_of requests (map row_of c.args.firsts.now) (desk (g.W.CiteWriter.state c.args.writer.now) c.args.counter.now) k request (row_of c.index-firsts-k.result)
-    _ _ (render_view c.in_ok-rendered.rendered) _ _ (slice_get_within requests k request c.at.ensures) (within_view row_of {xs = c.args.firsts.now} k refl c.loop-k-test.true)
-    (sym (get_or_from_slice_get requests k request request c.at.ensures)) (at_view row_of {xs = c.args.firsts.now} k refl c.index-firsts-k.result c.index-firsts-k.is)
-    c.loop-k.invariant c.in_ok-push.ensures
-    (c.in_ok-rendered.ensures.cites ∙ ap (first_renders_of (writing_of g.T.EntryLike.answers (g.W.CiteWriter.state c.loop-k.writer)) request) c.deref.ensures.value)
-    (c.in_ok-rendered.ensures.asked ∙ ap (λ firsts. after (first_tasks_of request firsts) (desk (g.W.CiteWriter.state c.loop-k.writer) c.loop-k.counter)) c.deref.ensures.value)
+    let ok_before = c.in_ok-rendered.ensures.agreed in
+    record {
+      made = λ way ok. one-made g.T.EntryLike.answers first_renders_of first_tasks_of requests (map row_of c.args.firsts.now) (desk (g.W.CiteWriter.state c.args.writer.now way) c.args.counter.now) k request (row_of c.index-firsts-k.result)
+          _ _ (render_view c.in_ok-rendered.rendered) _ _ (slice_get_within requests k request c.at.ensures) (within_view row_of {xs = c.args.firsts.now} k refl c.loop-k-test.true)
+          (sym (get_or_from_slice_get requests k request request c.at.ensures)) (at_view row_of {xs = c.args.firsts.now} k refl c.index-firsts-k.result c.index-firsts-k.is)
+          (c.loop-k.invariant.made way (ok_before way ok)) c.in_ok-push.ensures
+          (c.in_ok-rendered.ensures.cites way ok ∙ ap (first_renders_of (writing_of g.T.EntryLike.answers (g.W.CiteWriter.state c.loop-k.writer way)) request) c.deref.ensures.value)
+          (c.in_ok-rendered.ensures.asked way ok ∙ ap (λ firsts. after (first_tasks_of request firsts) (desk (g.W.CiteWriter.state c.loop-k.writer way) c.loop-k.counter)) c.deref.ensures.value);
+      agreed = λ way ok. c.loop-k.invariant.agreed way (ok_before way ok);
+    }
 
 pub returns : goal.returns
 returns g c =
     let requests = requests_view c.args.requests.requests.now in
     let rows = map row_of c.args.firsts.now in
     let past = subst (λ n. n ≤ c.loop-k.k) (lists-length requests rows c.requires.shape) (past_view row_of {xs = c.args.firsts.now} c.loop-k.k refl c.loop-k-test.false) in
-    let done = all-made g.T.EntryLike.answers first_renders_of first_tasks_of requests rows (desk (g.W.CiteWriter.state c.args.writer.now) c.args.counter.now) c.loop-k.k _ _ past c.loop-k.invariant in
-    record { cites = done.0; asked = done.1 }
+    let done = λ (way : g.W.CiteWriter.Way) (ok : g.W.CiteWriter.agrees c.loop-k.writer way). all-made g.T.EntryLike.answers first_renders_of first_tasks_of requests rows (desk (g.W.CiteWriter.state c.args.writer.now way) c.args.counter.now) c.loop-k.k _ _ past (c.loop-k.invariant.made way ok) in
+    record { cites = λ way ok. (done way ok).0; asked = λ way ok. (done way ok).1; agreed = c.loop-k.invariant.agreed }

@@ -9,5 +9,8 @@ use Rattle.csl_rounds.proofs.first_renders.first_renders.Given as goal
 
 abbrev pub invariant-loop-k : goal.invariant-loop-k
 invariant-loop-k g l =
-    Made g.T.EntryLike.answers first_renders_of first_tasks_of (requests_view l.requests.requests.now) (map row_of l.firsts) (desk (g.W.CiteWriter.state l.fn.writer) l.fn.counter) l.k
-    (renders_view l.cites.by_request.items) (desk (g.W.CiteWriter.state l.writer) l.counter)
+    record {
+      made : (way : g.W.CiteWriter.Way) → g.W.CiteWriter.agrees l.writer way → Made g.T.EntryLike.answers first_renders_of first_tasks_of (requests_view l.requests.requests.now) (map row_of l.firsts) (desk (g.W.CiteWriter.state l.fn.writer way) l.fn.counter) l.k
+          (renders_view l.cites.by_request.items) (desk (g.W.CiteWriter.state l.writer way) l.counter);
+      agreed : (way : g.W.CiteWriter.Way) → g.W.CiteWriter.agrees l.writer way → g.W.CiteWriter.agrees l.fn.writer way;
+    }

@@ -8,5 +8,8 @@ use Rattle.csl_rounds.proofs.rerender.render_items.Given as goal
 
 abbrev pub invariant-loop-k : goal.invariant-loop-k
 invariant-loop-k g l =
-    Changed item_view g.T.EntryLike.answers (λ w. cite_again l.states w (request_view l.request.request.now) l.places) (λ k. tasks_with (request_view l.request.request.now) (state_at l.states l.places k))
-    l.initial.items (desk (g.W.CiteWriter.state l.fn.writer) l.fn.counter) l.k l.items (desk (g.W.CiteWriter.state l.writer) l.counter)
+    record {
+      changed : (way : g.W.CiteWriter.Way) → g.W.CiteWriter.agrees l.writer way → Changed item_view g.T.EntryLike.answers (λ w. cite_again l.states w (request_view l.request.request.now) l.places) (λ k. tasks_with (request_view l.request.request.now) (state_at l.states l.places k))
+          l.initial.items (desk (g.W.CiteWriter.state l.fn.writer way) l.fn.counter) l.k l.items (desk (g.W.CiteWriter.state l.writer way) l.counter);
+      agreed : (way : g.W.CiteWriter.Way) → g.W.CiteWriter.agrees l.writer way → g.W.CiteWriter.agrees l.fn.writer way;
+    }

@@ -8,6 +8,9 @@ use Rattle.csl_rounds.proofs.rerender.render_marked.Given as goal
 
 abbrev pub invariant-loop-r : goal.invariant-loop-r
 invariant-loop-r g l =
-    Changed render_view g.T.EntryLike.answers (λ w r. request_again l.states w (slice_index_or (table_view l.table).places r []))
-    (λ r x. request_tasks l.states x.request (slice_index_or (table_view l.table).places r []) x.items)
-    l.initial.cites (desk (g.W.CiteWriter.state l.fn.writer) l.fn.counter) l.r l.cites (desk (g.W.CiteWriter.state l.writer) l.counter)
+    record {
+      changed : (way : g.W.CiteWriter.Way) → g.W.CiteWriter.agrees l.writer way → Changed render_view g.T.EntryLike.answers (λ w r. request_again l.states w (slice_index_or (table_view l.table).places r []))
+          (λ r x. request_tasks l.states x.request (slice_index_or (table_view l.table).places r []) x.items)
+          l.initial.cites (desk (g.W.CiteWriter.state l.fn.writer way) l.fn.counter) l.r l.cites (desk (g.W.CiteWriter.state l.writer way) l.counter);
+      agreed : (way : g.W.CiteWriter.Way) → g.W.CiteWriter.agrees l.writer way → g.W.CiteWriter.agrees l.fn.writer way;
+    }

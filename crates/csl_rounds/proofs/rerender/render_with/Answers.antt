@@ -1,5 +1,6 @@
 -- The copy is the state of the entry.
-use Rattle.std.proofs.Common.{◌≡◌, ◌∷◌, [], OnOk, ap, option_map, subst, sym, ◌∙◌}
+use Rattle.std.proofs.Common.{◌≡◌, ◌∷◌, [], ap, option_map, sym, ◌∙◌}
+use Rattle.std.proofs.lemmas.Result.{on_ok_weaker}
 use Rattle.csl_lookup.proofs.Copies.{state_copied}
 use Rattle.csl_passes.specs.RendersView.{item_view}
 use Rattle.csl_passes.specs.RequestView.{request_view}
@@ -12,9 +13,9 @@ pub returns-in_ok-clone-in-Some-clause-asked : goal.returns-in_ok-clone-in-Some-
 returns-in_ok-clone-in-Some-clause-asked g c =
     let request = request_view c.args.request.request.now in
     let item = item_view c.args.item.now in
-    let before = desk (g.W.CiteWriter.state c.args.writer.now) c.args.counter.now in
+    let before = λ (way : g.W.CiteWriter.Way). desk (g.W.CiteWriter.state c.args.writer.now way) c.args.counter.now in
     let copied = state_copied _ _ c.in_ok-clone-in-Some.ensures.cases in
-    subst (λ d. OnOk c.render_again.result (desk (g.W.CiteWriter.state c.render_again.new.writer) c.render_again.new.counter ≡ d))
-    (ap (λ s. after (cite_task (again_task request s item) ∷ []) before) copied
-    ∙ ap (λ s. after (tasks_with request (option_map (λ b. b.now) s) item) before) (sym c.in-Some.is))
+    on_ok_weaker c.render_again.result
+    (λ asked way ok. asked way ok ∙ ap (λ s. after (cite_task (again_task request s item) ∷ []) (before way)) copied
+    ∙ ap (λ s. after (tasks_with request (option_map (λ b. b.now) s) item) (before way)) (sym c.in-Some.is))
     c.render_again.ensures.asked

@@ -2,7 +2,7 @@
 use Rattle.std.proofs.Common.{map, ap}
 use Rattle.serde_json.specs.View.{view}
 use Rattle.csl_style_values.specs.StyleView.{locale_view}
-use Rattle.host_table.specs.Table.{found}
+use Rattle.host_memo.specs.Written.{found}
 use Rattle.json_styles.specs.NamedStyleView.{named_styles_view}
 use Rattle.host_document.proofs.DrivenRead.{driven-read}
 use Rattle.host_document.proofs.driving.driven_document_of.Goals as goal

@@ -2,9 +2,10 @@ use Rattle.std.proofs.Common.{length, ap, subst, ◌∙◌}
 use Rattle.host_driver.specs.Driven.{IsCslLacking, IsCslWhole, csl_asked_for_all}
 use Rattle.host_driver.proofs.AllNamed.{all-named, earliest}
 use Rattle.csl_driver.specs.JobView.{job_of}
-use Rattle.host_table.specs.Keys.{task_key}
-use Rattle.host_table.specs.Table.{found, note_once}
-use Rattle.host_table.specs.declared.key.TaskKey.{TaskKey}
+use Rattle.host_memo.specs.Keys.{task_key}
+use Rattle.host_memo.specs.Written.{found}
+use Rattle.host_table.specs.Table.{note_once}
+use Rattle.host_memo.specs.declared.key.TaskKey.{TaskKey}
 use Rattle.host_table.proofs.MissingTasks.{all-missing, all-there, clash, empty}
 use Rattle.csl_writers.specs.Writing.{WriterState, noted_all}
 use Rattle.host_driver.proofs.drive.drive_csl.Goals as goal
@@ -16,12 +17,12 @@ returns-then-is_empty-clause-driven g c =
     let table = found c.new-writer.result.written.now in
     let all = csl_asked_for_all g.T.PartialEq.eq g.P.PartialEq.eq answers table job in
     let missing = c.answer_csl_with.new.writer.missing.keys in
-    let noted = ap (λ (s : WriterState g.row.T.Denot g.row.P.Denot TaskKey). s.notes) c.in_ok-rendered.ensures.asked
+    let noted = ap (λ (s : WriterState g.row.T.Denot g.row.P.Denot TaskKey). s.notes) (c.in_ok-rendered.ensures.asked tt tt)
     ∙ ap (noted_all (λ task. note_once table (task_key answers task)) all) c.new-writer.ensures.nothing in
     subst (λ t. IsCslWhole g.T.PartialEq.eq g.P.PartialEq.eq answers (found t) job (c.in_ok-rendered.rendered, c.in_ok-rendered.account))
     c.new-writer.ensures.table (record {
       possible = c.in_ok-rendered.ensures.finished.possible;
-      answer = c.in_ok-rendered.ensures.finished.answer;
+      answer = c.in_ok-rendered.ensures.finished.answer tt tt;
       there = all-there table answers all missing noted (empty missing (c.is_empty.ensures.0 c.if-is_empty.true));
     })
 
@@ -32,7 +33,7 @@ returns-clause-driven g c =
     let table = found c.new-writer.result.written.now in
     let all = csl_asked_for_all g.T.PartialEq.eq g.P.PartialEq.eq answers table job in
     let missing = c.answer_csl_with.new.writer.missing.keys in
-    let noted = ap (λ (s : WriterState g.row.T.Denot g.row.P.Denot TaskKey). s.notes) c.in_ok-rendered.ensures.asked
+    let noted = ap (λ (s : WriterState g.row.T.Denot g.row.P.Denot TaskKey). s.notes) (c.in_ok-rendered.ensures.asked tt tt)
     ∙ ap (noted_all (λ task. note_once table (task_key answers task)) all) c.new-writer.ensures.nothing in
     subst (λ t. IsCslLacking g.T.PartialEq.eq g.P.PartialEq.eq answers (found t) job missing)
     c.new-writer.ensures.table (record {

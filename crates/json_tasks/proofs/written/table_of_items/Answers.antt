@@ -2,7 +2,7 @@
 use Rattle.std.proofs.Common.{◌+◌, [], ◌∷◌, ◌++◌, true, drop, ap, sym, ◌∙◌}
 use Rattle.json_document.proofs.Pairs.{fails_none}
 use Rattle.serde_json.specs.View.{items_view}
-use Rattle.host_table.specs.declared.key.TaskKey.{TaskKey}
+use Rattle.host_memo.specs.declared.key.TaskKey.{TaskKey}
 use Rattle.csl_writers.specs.declared.cite.Cite.{Cite}
 use Rattle.json_values.proofs.Progress.{Progress, Progress-more}
 use Rattle.json_values.specs.Words.{all_items}

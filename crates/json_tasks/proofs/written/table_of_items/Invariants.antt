@@ -1,6 +1,6 @@
 -- What was written is put into the table one after another, while each task has one tree.
 use Rattle.std.proofs.Common.{◌≡◌, true}
-use Rattle.host_table.specs.Table.{found}
+use Rattle.host_memo.specs.Written.{found}
 use Rattle.json_values.proofs.Progress.{Progress}
 use Rattle.json_tasks.specs.Known.{knows}
 use Rattle.json_tasks.specs.WrittenForm.{Written, first_written, has_one_tree_each, written_form}

@@ -30,8 +30,8 @@ class Document:
     language: str
 
     def answer(self) -> Answer:
-        """The answer. Raises TextRefused where a part of the document is wrong; Unsettled,
-        NumberOverflow or OutOfMemory; and LibraryMissing."""
+        """The answer. Raises TextRefused where a part of the document is wrong; NumberOverflow or
+        OutOfMemory; and LibraryMissing."""
         cites = [[cite.data() for cite in citation] for citation in self.citations]
         return cite_texts(CiteTexts(
             style=bytes_of(self.style.text), items=json_of(self.entries), citations=json_of(cites),

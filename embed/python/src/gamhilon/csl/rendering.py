@@ -54,7 +54,7 @@ def render(style: StyleLike, references: Optional[ReferencesLike] = None,
     field that is wrong, or its id stands for it. Raises StyleMissing where there is no such style,
     StyleRefused where a style or a locale file isn't one, CitationRefused where a citation isn't
     one or cites an entry that isn't there, EntriesRefused where the references are no list (each of
-    these is a ValueError); Unsettled, NumberOverflow or OutOfMemory, and LibraryMissing; what
+    these is a ValueError); NumberOverflow or OutOfMemory, and LibraryMissing; what
     `references.load` raises of a path. Each of them is a GamhilonError.
     """
     given = _references(references, entries)

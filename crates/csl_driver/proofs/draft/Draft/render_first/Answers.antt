@@ -24,9 +24,10 @@ first_renders-requires g c =
     let eq = g.T.PartialEq.eq in
     let requests = (job_in c.args.self).requests in
     let number_of = numbered_by eq c.deref.result.now (table_in c.args.self).entries in
+    let some = g.met.W.CiteWriter.some_way c.args.writer.now in
     record {
       shape = subst (HasShapeOf requests) (sym (ap (map (λ f. f.items)) c.deref-2.ensures.value ∙ c.in_ok-firsts.ensures))
-          (first-shape eq g.P.PartialEq.eq (writing_of g.T.EntryLike.answers (g.W.CiteWriter.state c.args.writer.now)) number_of (distinct eq (cited requests)) requests);
+          (first-shape eq g.P.PartialEq.eq (writing_of g.T.EntryLike.answers (g.W.CiteWriter.state c.args.writer.now some.0)) number_of (distinct eq (cited requests)) requests);
     }
 
 pub returns : goal.returns
@@ -38,6 +39,7 @@ returns g c =
     let properties =
     ap (map (λ f. f.items)) c.deref-2.ensures.value ∙ c.in_ok-firsts.ensures ∙ ap (λ n. first_properties eq g.P.PartialEq.eq n requests) numbers in
     record {
-      cites = c.in_ok-cites.ensures.cites ∙ ap (first_renders (writing_of g.T.EntryLike.answers (g.W.CiteWriter.state c.args.writer.now)) requests) properties;
-      asked = c.in_ok-cites.ensures.asked ∙ ap (λ ps. after (first_tasks requests ps) (desk (g.W.CiteWriter.state c.args.writer.now) c.args.counter.now)) properties;
+      cites = λ way ok. c.in_ok-cites.ensures.cites way ok ∙ ap (first_renders (writing_of g.T.EntryLike.answers (g.W.CiteWriter.state c.args.writer.now way)) requests) properties;
+      asked = λ way ok. c.in_ok-cites.ensures.asked way ok ∙ ap (λ ps. after (first_tasks requests ps) (desk (g.W.CiteWriter.state c.args.writer.now way) c.args.counter.now)) properties;
+      agreed = c.in_ok-cites.ensures.agreed;
     }

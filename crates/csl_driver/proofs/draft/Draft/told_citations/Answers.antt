@@ -31,27 +31,31 @@ loop-index-preserved g c =
     let cite = render_view c.index-cites-index.result in
     let within = within_view render_view {xs = cites} k refl c.loop-index-test.true in
     let here = at_view render_view {xs = cites} k refl c.index-cites-index.result c.index-cites-index.is in
-    let begun = desk (g.W.CiteWriter.state c.args.writer.now) c.args.counter.now in
-    let before = desk (g.W.CiteWriter.state c.loop-index.writer) c.loop-index.counter in
+    let Way = g.W.CiteWriter.Way in
+    let state = g.W.CiteWriter.state in
+    let begun = λ (way : Way). desk (state c.args.writer.now way) c.args.counter.now in
+    let before = λ (way : Way). desk (state c.loop-index.writer way) c.loop-index.counter in
     let was = c.loop-index.invariant in
-    let same = writes-same answers (last_tasks (take k views)) begun before was.asked in
-    let tree = c.in_ok-tree.ensures.tree ∙ (λ i. citation_without_empty (same i) k (record cite { items = map item_view (c.deref.ensures.value i) })) in
+    let before_ok = c.in_ok-tree.ensures.agreed in
+    let same = λ (way : Way) (ok : _). writes-same answers (last_tasks (take k views)) (begun way) (before way) (was.asked way (before_ok way ok)) in
+    let tree = λ (way : Way) (ok : _). c.in_ok-tree.ensures.tree way ok ∙ (λ i. citation_without_empty (same way ok i) k (record cite { items = map item_view (c.deref.ensures.value i) })) in
     record {
-      citations = c.in_ok-push.ensures
-          ∙ (λ i. was.citations i ++ (record { note_number = c.note_number.ensures i; citation = tree i }) ∷ [])
-          ∙ sym (each-more views k cite within here (told_citation (writing_of answers (g.W.CiteWriter.state c.args.writer.now))));
-      asked = after-then (last_tasks (take k views)) (citation_tasks k cite) begun before _ was.asked (c.in_ok-tree.ensures.asked ∙ (λ i. after (citation_tasks k (record cite { items = map item_view (c.deref.ensures.value i) })) before))
-          ∙ sym (ap (λ ts. after ts begun) (all-more views k cite within here citation_tasks));
+      citations = λ way ok. c.in_ok-push.ensures
+          ∙ (λ i. was.citations way (before_ok way ok) i ++ (record { note_number = c.note_number.ensures i; citation = tree way ok i }) ∷ [])
+          ∙ sym (each-more views k cite within here (told_citation (writing_of answers (state c.args.writer.now way))));
+      asked = λ way ok. after-then (last_tasks (take k views)) (citation_tasks k cite) (begun way) (before way) _ (was.asked way (before_ok way ok)) (c.in_ok-tree.ensures.asked way ok ∙ (λ i. after (citation_tasks k (record cite { items = map item_view (c.deref.ensures.value i) })) (before way)))
+          ∙ sym (ap (λ ts. after ts (begun way)) (all-more views k cite within here citation_tasks));
+      agreed = λ way ok. was.agreed way (before_ok way ok);
     }
 
 pub returns-clause-citations : goal.returns-clause-citations
-returns-clause-citations g c =
-    c.loop-index.invariant.citations
-    ∙ ap (told_citations (writing_of g.T.EntryLike.answers (g.W.CiteWriter.state c.args.writer.now)))
+returns-clause-citations g c = λ way ok.
+    c.loop-index.invariant.citations way ok
+    ∙ ap (told_citations (writing_of g.T.EntryLike.answers (g.W.CiteWriter.state c.args.writer.now way)))
     (take_all c.loop-index.index (renders_view c.args.cites.now) (past_view render_view {xs = c.args.cites.now} c.loop-index.index refl c.loop-index-test.false))
 
 pub returns-clause-asked : goal.returns-clause-asked
-returns-clause-asked g c =
-    c.loop-index.invariant.asked
-    ∙ ap (λ cs. after (last_tasks cs) (desk (g.W.CiteWriter.state c.args.writer.now) c.args.counter.now))
+returns-clause-asked g c = λ way ok.
+    c.loop-index.invariant.asked way ok
+    ∙ ap (λ cs. after (last_tasks cs) (desk (g.W.CiteWriter.state c.args.writer.now way) c.args.counter.now))
     (take_all c.loop-index.index (renders_view c.args.cites.now) (past_view render_view {xs = c.args.cites.now} c.loop-index.index refl c.loop-index-test.false))

@@ -9,7 +9,11 @@ use Rattle.csl_driver.proofs.draft.Draft.told_citations.Given as goal
 abbrev pub invariant-loop-index : goal.invariant-loop-index
 invariant-loop-index g l =
     let done = take l.index (renders_view l.cites) in
+    let Way = g.W.CiteWriter.Way in
+    let agrees = g.W.CiteWriter.agrees in
+    let state = g.W.CiteWriter.state in
     record {
-      citations : l.citations.items ≡ told_citations (writing_of g.T.EntryLike.answers (g.W.CiteWriter.state l.fn.writer)) done;
-      asked : desk (g.W.CiteWriter.state l.writer) l.counter ≡ after (last_tasks done) (desk (g.W.CiteWriter.state l.fn.writer) l.fn.counter);
+      citations : (way : Way) → agrees l.writer way → l.citations.items ≡ told_citations (writing_of g.T.EntryLike.answers (state l.fn.writer way)) done;
+      asked : (way : Way) → agrees l.writer way → desk (state l.writer way) l.counter ≡ after (last_tasks done) (desk (state l.fn.writer way) l.fn.counter);
+      agreed : (way : Way) → agrees l.writer way → agrees l.fn.writer way;
     }

@@ -16,20 +16,22 @@ pub returns-in-Ok : goal.returns-in-Ok
 returns-in-Ok g c =
     let eq = g.T.PartialEq.eq in
     let peq = g.P.PartialEq.eq in
-    let old = g.W.CiteWriter.state c.args.writer.now in
-    let writing = writing_of g.T.EntryLike.answers old in
+    let Way = g.W.CiteWriter.Way in
+    let old = λ (way : Way). g.W.CiteWriter.state c.args.writer.now way in
+    let writing = λ (way : Way). writing_of g.T.EntryLike.answers (old way) in
     let same = same-job c.args.self.now c.args.request.now (c.in_ok-requests.ensures.requests ∙ c.deref.ensures.value) c.in_ok-cited.ensures.offset c.in_ok-requests.ensures.wanted in
-    let exact = subst (λ j. IsExactlyCsl eq peq writing j c.in-Ok.answer) same c.in-Ok.ensures.answer in
+    let exact = λ (way : Way) (ok : _). subst (λ j. IsExactlyCsl eq peq (writing way) j c.in-Ok.answer) same (c.in-Ok.ensures.answer way ok) in
     record {
       finished = record {
-        answer = record { exact = exact; laws = c.csl_answers_keep_laws.ensures writing _ c.in-Ok.answer exact };
+        answer = λ way ok. record { exact = exact way ok; laws = c.csl_answers_keep_laws.ensures (writing way) _ c.in-Ok.answer (exact way ok) };
         possible = subst (CanBeAnswered eq) same (record {
           no_ring = (c.in_ok-requests.requests.no_ring, c.in_ok-requests.wanted.no_ring);
           fits = c.in_ok-cited.ensures.known.fits;
         });
         refused = tt;
       };
-      asked = c.in-Ok.ensures.asked ∙ ap (λ j. asked_for (csl_tasks eq j writing peq) old) same;
+      asked = λ way ok. c.in-Ok.ensures.asked way ok ∙ ap (λ j. asked_for (csl_tasks eq j (writing way) peq) (old way)) same;
+      agreed = c.in-Ok.ensures.agreed;
       unasked = tt;
     }
 

@@ -22,6 +22,7 @@ returns-in-Ok g c =
         refused = tt;
       };
       asked = c.in-Ok.ensures.asked;
+      agreed = c.in-Ok.ensures.agreed;
       unasked = tt;
     })
 

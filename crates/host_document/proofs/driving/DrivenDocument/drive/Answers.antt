@@ -4,7 +4,7 @@ use Rattle.std.specs.Prelude.{option_map}
 use Rattle.csl_style_values.specs.StyleView.{locale_view}
 use Rattle.csl_driver.specs.DriverView.{driver_view}
 use Rattle.csl_passes.specs.RequestView.{entries_view, wanted_view}
-use Rattle.host_table.specs.Table.{found}
+use Rattle.host_memo.specs.Written.{found}
 use Rattle.json_document.specs.Form.{request_with}
 use Rattle.json_document.specs.FoundView.{found_views, unnamed}
 use Rattle.json_document.specs.Indexes.{each_of, order_at, request_at}

@@ -1,0 +1,4 @@
+pub mod HostStyle
+pub mod Keys
+pub mod Written
+pub mod Memo

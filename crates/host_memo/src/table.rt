@@ -1,0 +1,30 @@
+//! What was written.
+ghost use Rattle.std.specs.Prelude.{◌≡◌, IfOk};
+
+use crate::key::TaskKey;
+use csl_writers::cite::Cite;
+use indexmap::IndexMap;
+use std::alloc::AllocError;
+
+/// What was written, by what it was asked for. Of an item and of a date the tree alone counts.
+pub type Table = IndexMap<TaskKey, Cite>;
+
+/// A copy of what was written.
+///
+/// # Errors
+///
+/// Where memory is refused.
+pub fn copied(cite: &Cite) -> Result<Cite, AllocError>
+    ensures { IfOk result (λ c. c ≡ cite.now) }
+{
+    let first_name = match &cite.first_name {
+        Some(names) => Some(names.clone()?),
+        None => None,
+    };
+    Ok(Cite {
+        children: cite.children.clone()?,
+        checked_disambiguate: cite.checked_disambiguate,
+        first_name,
+        identifier_usage: cite.identifier_usage,
+    })
+}
