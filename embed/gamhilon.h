@@ -128,9 +128,10 @@ uint32_t gamhilon_render_json(const uint8_t *document, size_t document_length,
  *   dialect, of the language's primary dialect and of American English (en-US), which is built in;
  *   the others aren't used. An empty text is an empty list.
  * - `items`: CSL-JSON (docs/REFERENCES.md).
- * - `citations`: a JSON list of citations, each a list of cites: objects with `id`, and maybe
- *   `locator`, `label`, `prefix`, `suffix`, `suppress-author`, `author-only`, `hidden` and `note`
- *   (docs/WRITER.md).
+ * - `citations`: a JSON list of citations, each a list of cites, or an object with these as
+ *   `citationItems`, and maybe `citationID` and `properties` with `noteIndex` and `unsorted`. A
+ *   cite is an object with `id`, and maybe `locator`, `label`, `prefix`, `suffix`,
+ *   `suppress-author`, `author-only`, `hidden` and `note` (docs/WRITER.md).
  * - `options`: a JSON object of `locale`, a language tag that stands in place of the style's, and
  *   `nocite`: where it is true, items that aren't cited are listed too. Other keys are refused. An
  *   empty text is an empty object.

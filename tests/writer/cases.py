@@ -18,6 +18,11 @@ def person(id, family, given, year, title='T', **more):
             'issued': {'date-parts': [[year]]}, **more}
 
 
+def atlas(id):
+    """An article of nobody, in a paper."""
+    return {'id': id, 'type': 'article-newspaper', 'container-title': 'Atlas', 'issued': {'date-parts': [[2001]]}}
+
+
 def several(id, year, *families, title='T'):
     return {'id': id, 'type': 'book', 'title': title, 'author': [{'family': it, 'given': it[0] + 'x'} for it in families],
             'issued': {'date-parts': [[year]]}}
@@ -397,6 +402,22 @@ CASES = [
     cite('sorted cites', 'Sorting: the cites of a citation have keys of their own', AUTHOR_YEAR,
          [person('b', 'Bee', 'B', 2001), person('a', 'Ape', 'A', 2005)], ['Ape 2005; Bee 2001'],
          sort='<sort><key variable="author"/></sort>', affixes='delimiter="; "'),
+    cite('names that stand in', 'Cite Grouping and Collapsing: what is compared has what `cs:substitute` renders',
+         '<group delimiter=" "><names variable="author"><name form="short"/><substitute><text variable="container-title"/></substitute>'
+         '</names>' + YEAR + '</group>', [atlas('x'), person('r', 'Roe', 'R', 2002), atlas('y')],
+         ['(Atlas 2001a, b; Roe 2002)', '(2001a; Roe 2002)'], [cites('x', 'r', 'y'), cites({'id': 'x', 'suppress-author': True}, 'r')],
+         in_citation='disambiguate-add-year-suffix="true" collapse="year-suffix" year-suffix-delimiter=", "',
+         affixes='prefix="(" suffix=")" delimiter="; "'),
+    cite('words between cites', 'docs/DECISIONS.md: a citation with words before a cite behind the first keeps its order', AUTHOR_YEAR,
+         [person('b', 'Bee', 'B', 2001), person('a', 'Ape', 'A', 2005)],
+         ['Bee 2001; see also Ape 2005', 'Ape 2005; see Bee 2001', 'Ape 2005, p; Bee 2001'],
+         [cites('b', {'id': 'a', 'prefix': 'see also '}), cites({'id': 'b', 'prefix': 'see '}, 'a'),
+          cites('b', {'id': 'a', 'suffix': ', p'})], sort='<sort><key variable="author"/></sort>', affixes='delimiter="; "'),
+    cite('unsorted citations', 'csl-citation.json: `unsorted`', AUTHOR_YEAR,
+         [person('b', 'Bee', 'B', 2001), person('a', 'Ape', 'A', 2005)], ['Bee 2001; Ape 2005', 'Ape 2005; Bee 2001'],
+         [{'citationID': 'x', 'citationItems': cites('b', 'a'), 'properties': {'unsorted': True}},
+          {'citationID': 'y', 'citationItems': cites('b', 'a'), 'properties': {'unsorted': False, 'noteIndex': 0}}],
+         sort='<sort><key variable="author"/></sort>', affixes='delimiter="; "'),
     item('seasons', 'Sorting: what a date lacks is zero, and a season is no part of a date', TEXT,
          [person('a', 'A', 'A', 2000, title='X'), {**person('b', 'B', 'B', 2000, title='Y'), 'issued': {'date-parts': [[2000, 5]]}},
           {**person('c', 'C', 'C', 2000, title='Z'), 'issued': {'date-parts': [[2000]], 'season': 1}}], ['X', 'Z', 'Y'],
@@ -478,6 +499,11 @@ CASES = [
          '<choose><if position="subsequent"><text variable="first-reference-note-number" prefix="n. "/></if><else>'
          '<text value="first"/></else></choose>', [BOOK, PAGE], ['first', 'first', 'n. 4'],
          [[{'id': 'book', 'note': 4}], [{'id': 'page', 'note': 5}], [{'id': 'book', 'note': 6}]], class_='note'),
+    cite('notes of citations', 'csl-citation.json: `noteIndex`',
+         '<choose><if position="subsequent"><text variable="first-reference-note-number" prefix="n. "/></if><else>'
+         '<text value="first"/></else></choose>', [BOOK, PAGE], ['first', 'first', 'n. 4'],
+         [{'citationItems': cites('book'), 'properties': {'noteIndex': 4}}, [{'id': 'page', 'note': 5}],
+          {'citationItems': cites({'id': 'book', 'note': 6}), 'properties': {'noteIndex': 6}}], class_='note'),
     cite('own notes', 'docs/WRITER.md: a citation that tells no note has the next one that no other citation tells',
          '<choose><if position="subsequent"><text variable="first-reference-note-number" prefix="n. "/></if><else>'
          '<text value="first"/></else></choose>', [BOOK, PAGE, PAPER], ['first', 'first', 'first', 'n. 2', 'n. 4', 'n. 3'],

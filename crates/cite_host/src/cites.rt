@@ -27,6 +27,20 @@ pub struct Citation {
     pub note: Option<usize>,
     /// Whether nothing else stands in its note, so that its words begin the note.
     pub is_alone: bool,
+    /// Whether its cites keep their order in every style.
+    pub is_unsorted: bool,
+}
+
+impl Citation {
+    /// Whether its cites keep their order: where the document says so, and where words of its own
+    /// lead to a cite behind the first.
+    pub(crate) fn keeps_order(&self) -> bool {
+        self.is_unsorted || self.cites.iter().skip(1).any(has_words_before)
+    }
+}
+
+fn has_words_before(cite: &Cite) -> bool {
+    !cite.is_hidden && !cite.prefix.as_str().trim().is_empty()
 }
 
 impl Cite {

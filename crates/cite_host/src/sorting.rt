@@ -31,7 +31,7 @@ pub(crate) fn sorted_citations<'d>(
     let keys = setting.programs.citation_keys.as_slice();
     let mut sorted = Vec::new(alloc);
     for (number, citation) in citations.iter().enumerate() {
-        let places = if keys.is_empty() || citation.cites.len() < 2 {
+        let places = if keys.is_empty() || citation.keeps_order() {
             own_places(alloc, citation)?
         } else {
             places_by_keys(alloc, setting, keys, items, citation)?

@@ -9,8 +9,10 @@ use thiserror::Error;
 pub enum Wanted {
     /// A list of citations.
     Citations,
-    /// A citation, which is a list of cites.
+    /// A citation, which is a list of cites or an object with one.
     Citation,
+    /// The cites of a citation that is an object: a list at `citationItems`.
+    Cites,
     /// A cite, which is an object.
     Cite,
     /// A cite that has an `id`, which is a text or a number.
@@ -58,7 +60,10 @@ impl fmt::Display for Wanted {
     fn fmt<W: fmt::Write>(&self, f: &mut fmt::Formatter<W>) -> fmt::Result {
         f.write_str(match self {
             Wanted::Citations => "wanted a list of citations",
-            Wanted::Citation => "wanted a citation, which is a list of cites",
+            Wanted::Citation => {
+                "wanted a citation, which is a list of cites or an object with `citationItems`"
+            }
+            Wanted::Cites => "wanted `citationItems`, which is a list of cites",
             Wanted::Cite => "wanted a cite, which is an object",
             Wanted::Id => "wanted an `id`, which is a text or a number",
         })

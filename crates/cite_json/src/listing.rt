@@ -39,6 +39,7 @@ pub fn uncited(
         cites,
         note: None,
         is_alone: false,
+        is_unsorted: false,
     })
 }
 

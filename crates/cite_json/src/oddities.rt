@@ -3,10 +3,24 @@ use crate::warning::{ValueKind, WarningKind};
 use csl_vocabulary::locator::LocatorType;
 use serde_json::{Map, Value};
 
-/// What is odd at a key of a cite.
-pub(crate) fn oddity_of(object: &Map<String, Value>, key: &str) -> Option<WarningKind> {
-    let Some(kind) = kind_of_key(key) else {
-        return Some(WarningKind::UnknownKey);
+/// What an object of the JSON is.
+#[derive(Clone, Copy)]
+pub(crate) enum Holder {
+    Citation,
+    /// The properties of a citation.
+    Properties,
+    Cite,
+}
+
+/// What is odd at a key of an object.
+pub(crate) fn oddity_of(
+    holder: Holder,
+    object: &Map<String, Value>,
+    key: &str,
+) -> Option<WarningKind> {
+    let kind = match kind_of_key(holder, key) {
+        Some(kind) => kind,
+        None => return Some(WarningKind::UnknownKey),
     };
     let value = object.get(key)?;
     if !is_of_kind(value, kind) {
@@ -18,12 +32,25 @@ pub(crate) fn oddity_of(object: &Map<String, Value>, key: &str) -> Option<Warnin
     None
 }
 
-fn kind_of_key(key: &str) -> Option<ValueKind> {
-    match key {
-        "id" | "locator" | "label" | "prefix" | "suffix" => Some(ValueKind::Text),
-        "suppress-author" | "author-only" | "hidden" => Some(ValueKind::Flag),
-        "note" => Some(ValueKind::NoteNumber),
-        _ => None,
+fn kind_of_key(holder: Holder, key: &str) -> Option<ValueKind> {
+    match holder {
+        Holder::Citation => match key {
+            "schema" | "citationID" => Some(ValueKind::Text),
+            "citationItems" => Some(ValueKind::List),
+            "properties" => Some(ValueKind::Object),
+            _ => None,
+        },
+        Holder::Properties => match key {
+            "noteIndex" => Some(ValueKind::NoteNumber),
+            "unsorted" => Some(ValueKind::Flag),
+            _ => None,
+        },
+        Holder::Cite => match key {
+            "id" | "locator" | "label" | "prefix" | "suffix" => Some(ValueKind::Text),
+            "suppress-author" | "author-only" | "hidden" => Some(ValueKind::Flag),
+            "note" => Some(ValueKind::NoteNumber),
+            _ => None,
+        },
     }
 }
 
@@ -31,6 +58,8 @@ fn is_of_kind(value: &Value, kind: ValueKind) -> bool {
     match (kind, value) {
         (ValueKind::Text, Value::String(_) | Value::Number(_)) => true,
         (ValueKind::Flag, Value::Bool(_)) => true,
+        (ValueKind::List, Value::Array(_)) => true,
+        (ValueKind::Object, Value::Object(_)) => true,
         (ValueKind::NoteNumber, _) => note_number(value).is_some(),
         _ => false,
     }

@@ -1,6 +1,6 @@
 //! Reading citations.
 use crate::fault::{CitationFault, CitationsError, Wanted};
-use crate::oddities::{note_number, oddity_of};
+use crate::oddities::{Holder, note_number, oddity_of};
 use crate::warning::{CiteWarning, WarningKind};
 use cite_host::cites::{Citation, Cite};
 use cite_walk::cite::CiteLocator;
@@ -19,9 +19,12 @@ pub struct ReadCitations {
     pub warnings: Vec<CiteWarning>,
 }
 
-/// The citations of JSON: a list of lists of cites. A cite is an object with an `id` and maybe a
-/// `locator`, a `label`, which is `page` where it tells none, a `prefix` and a `suffix`, which may
-/// have markup as the texts of items, `suppress-author`, `author-only`, `hidden` and `note`.
+/// The citations of JSON. A citation is a list of cites, or an object as in CSL's
+/// csl-citation.json: its cites as `citationItems`, and maybe a `citationID` and `properties`, with
+/// the number of its note as `noteIndex` (0 for a citation in the text) and `unsorted` where its
+/// cites keep their order. A cite is an object with an `id` and maybe a `locator`, a `label`, which
+/// is `page` where it tells none, a `prefix` and a `suffix`, which may have markup as the texts of
+/// items, `suppress-author`, `author-only`, `hidden` and `note`.
 ///
 /// # Errors
 ///
@@ -74,8 +77,25 @@ fn refusal(pointer: Pointer, wanted: Wanted) -> CitationsError {
 enum Place {
     Whole,
     Citation(usize),
-    Cite { citation: usize, cite: usize },
+    /// The properties of a citation that is an object.
+    Properties(usize),
+    Cite {
+        citation: usize,
+        cite: usize,
+        form: CitationForm,
+    },
 }
+
+/// How a citation stands in the JSON.
+#[derive(Clone, Copy)]
+enum CitationForm {
+    List,
+    Object,
+}
+
+const CITES: &str = "citationItems";
+
+const PROPERTIES: &str = "properties";
 
 impl Place {
     /// The pointer to the place.
@@ -84,8 +104,19 @@ impl Place {
         match self {
             Place::Whole => {}
             Place::Citation(citation) => steps.push(Step::Item(citation))?,
-            Place::Cite { citation, cite } => {
+            Place::Properties(citation) => {
                 steps.push(Step::Item(citation))?;
+                steps.push(key_step(alloc, PROPERTIES)?)?;
+            }
+            Place::Cite {
+                citation,
+                cite,
+                form,
+            } => {
+                steps.push(Step::Item(citation))?;
+                if let CitationForm::Object = form {
+                    steps.push(key_step(alloc, CITES)?)?;
+                }
                 steps.push(Step::Item(cite))?;
             }
         }
@@ -95,9 +126,43 @@ impl Place {
     /// The pointer to the member of this key.
     fn member(self, alloc: Global, key: &str) -> Result<Pointer, AllocError> {
         let mut pointer = self.pointer(alloc)?;
-        let key = String::from_str(alloc, key)?;
-        pointer.steps.push(Step::Key(key))?;
+        pointer.steps.push(key_step(alloc, key)?)?;
         Ok(pointer)
+    }
+
+    /// What the object at the place is.
+    fn holder(self) -> Holder {
+        match self {
+            Place::Whole | Place::Citation(_) => Holder::Citation,
+            Place::Properties(_) => Holder::Properties,
+            Place::Cite { .. } => Holder::Cite,
+        }
+    }
+}
+
+fn key_step(alloc: Global, key: &str) -> Result<Step, AllocError> {
+    Ok(Step::Key(String::from_str(alloc, key)?))
+}
+
+/// What is said of a citation beside its cites.
+#[derive(Clone, Copy)]
+struct Properties {
+    note: Option<usize>,
+    is_unsorted: bool,
+}
+
+impl Properties {
+    /// Those of a citation that has none.
+    const NONE: Properties = Properties {
+        note: None,
+        is_unsorted: false,
+    };
+
+    fn of_object(object: &Map<String, Value>) -> Properties {
+        Properties {
+            note: note_at(object, "noteIndex").filter(|note| *note > 0),
+            is_unsorted: flag_at(object, "unsorted"),
+        }
     }
 }
 
@@ -131,25 +196,81 @@ impl Reader {
     }
 
     fn citation(&mut self, citation: usize, item: &Value) -> Result<Citation, CitationsError> {
-        let Some(members) = item.as_array() else {
-            let pointer = Place::Citation(citation).pointer(self.alloc)?;
-            return Err(refusal(pointer, Wanted::Citation));
+        match item {
+            Value::Array(cites) => {
+                self.citation_of(citation, CitationForm::List, cites, Properties::NONE)
+            }
+            Value::Object(object) => self.citation_of_object(citation, object),
+            _ => {
+                let pointer = Place::Citation(citation).pointer(self.alloc)?;
+                Err(refusal(pointer, Wanted::Citation))
+            }
+        }
+    }
+
+    fn citation_of_object(
+        &mut self,
+        citation: usize,
+        object: &Map<String, Value>,
+    ) -> Result<Citation, CitationsError> {
+        let place = Place::Citation(citation);
+        let Some(Value::Array(cites)) = object.get(CITES) else {
+            return Err(refusal(place.pointer(self.alloc)?, Wanted::Cites));
         };
+        self.warn_of_members(place, object)?;
+        let properties = match object.get(PROPERTIES) {
+            Some(Value::Object(properties)) => {
+                self.warn_of_members(Place::Properties(citation), properties)?;
+                Properties::of_object(properties)
+            }
+            _ => Properties::NONE,
+        };
+        self.citation_of(citation, CitationForm::Object, cites, properties)
+    }
+
+    fn citation_of(
+        &mut self,
+        citation: usize,
+        form: CitationForm,
+        members: &[Value],
+        properties: Properties,
+    ) -> Result<Citation, CitationsError> {
         let mut cites = Vec::new(self.alloc);
-        let mut note = None;
+        let mut note = properties.note;
         for (cite, member) in members.iter().enumerate() {
-            let place = Place::Cite { citation, cite };
+            let place = Place::Cite {
+                citation,
+                cite,
+                form,
+            };
             let Some(object) = member.as_object() else {
                 return Err(refusal(place.pointer(self.alloc)?, Wanted::Cite));
             };
             cites.push(self.cite(place, object)?)?;
-            note = note.or(note_of(object));
+            note = self.note_with(place, object, properties, note)?;
         }
         Ok(Citation {
             cites,
             note,
             is_alone: note.is_none(),
+            is_unsorted: properties.is_unsorted,
         })
+    }
+
+    /// The note of a citation, with what one more of its cites says of it. The citation's own
+    /// properties go before its cites, and its first cites before others.
+    fn note_with(
+        &mut self,
+        place: Place,
+        object: &Map<String, Value>,
+        properties: Properties,
+        note: Option<usize>,
+    ) -> Result<Option<usize>, AllocError> {
+        let own = note_at(object, "note");
+        if own.is_some() && properties.note.is_some() && own != properties.note {
+            self.warn(place, "note", WarningKind::OtherNote)?;
+        }
+        Ok(note.or(own))
     }
 
     fn cite(&mut self, place: Place, object: &Map<String, Value>) -> Result<Cite, CitationsError> {
@@ -219,7 +340,7 @@ impl Reader {
     ) -> Result<(), AllocError> {
         for key in object.keys() {
             let key = key.as_str();
-            if let Some(kind) = oddity_of(object, key) {
+            if let Some(kind) = oddity_of(place.holder(), object, key) {
                 self.warn(place, key, kind)?;
             }
         }
@@ -233,8 +354,9 @@ impl Reader {
     }
 }
 
-fn note_of(object: &Map<String, Value>) -> Option<usize> {
-    note_number(object.get("note")?)
+/// The number of a note at a key.
+fn note_at(object: &Map<String, Value>, key: &str) -> Option<usize> {
+    note_number(object.get(key)?)
 }
 
 /// The kind of the locator of a cite: a page where it tells none that is known.

@@ -246,13 +246,13 @@ impl<'s, 'c> Walk<'s, 'c> {
     }
 
     /// Opens an element that may stand in for the names at this place among the steps, in their
-    /// affixes and their formatting. In an item it counts as a name of nobody, and is replaced
-    /// where it repeats.
+    /// affixes and their formatting. In a cite it counts as names of nobody, by which cites are
+    /// grouped; in an item as a name of nobody, which is replaced where it repeats.
     fn open_substitute(&mut self, names_at: usize) -> Result<(), AllocError> {
         let around = self.setting_of(names_at);
         let inside = self.scene.program.steps.get(self.here.saturating_add(1));
         let is_names = matches!(inside, Some(Step::Names { .. }));
-        if is_names || !matches!(self.scene.kind, SceneKind::Item) {
+        if is_names || matches!(self.scene.kind, SceneKind::Key(_)) {
             self.open(Element {
                 mark: self.author_mark(),
                 ..around
@@ -260,14 +260,17 @@ impl<'s, 'c> Walk<'s, 'c> {
             return self.output.open(Element::PLAIN);
         }
         let alloc = self.alloc();
-        let mark = Mark::Names(self.names.len());
+        let nobody = Mark::Names(self.names.len());
         self.names.push(Seq::new(Vec::new(alloc)))?;
+        let (outer, inner) = match self.scene.kind {
+            SceneKind::Item => (Some(nobody), Mark::Name(NameVariable::Author, 0)),
+            SceneKind::Cite | SceneKind::Key(_) => (self.author_mark(), nobody),
+        };
         self.open(Element {
-            mark: Some(mark),
+            mark: outer,
             ..around
         })?;
-        self.output
-            .open(marked(Mark::Name(NameVariable::Author, 0)))
+        self.output.open(marked(inner))
     }
 
     /// An element with the affixes and the formatting of the names at this place among the steps.
@@ -295,10 +298,10 @@ impl<'s, 'c> Walk<'s, 'c> {
     fn close_substitute(&mut self, names_at: usize) -> Result<(), AllocError> {
         let frame = self.frames.pop().unwrap_or(Frame::NEW);
         self.add(frame);
-        let has_names = matches!(self.scene.kind, SceneKind::Item)
-            && self.names.len() > frame.names_before;
+        let has_names = self.names.len() > frame.names_before;
         self.close_marked(has_names)?;
-        if !self.close_marked(has_names)? {
+        let is_item = matches!(self.scene.kind, SceneKind::Item);
+        if !self.close_marked(has_names && is_item)? {
             return Ok(());
         }
         for variable in self.used.iter().skip(frame.used_before) {
@@ -309,8 +312,8 @@ impl<'s, 'c> Walk<'s, 'c> {
         Ok(())
     }
 
-    /// Closes an element that may stand in for names. Where it has names of an item, these alone
-    /// are marked.
+    /// Closes an element that may stand in for names. Where names are inside it, these alone are
+    /// marked.
     fn close_marked(&mut self, has_names: bool) -> Result<bool, AllocError> {
         if has_names {
             self.output.unmark();

@@ -315,6 +315,56 @@ def test_a_group_of_a_number_and_no_locator_is_written(render):
     assert told.citations == ['[1]', '[1, 4]']
 
 
+SORTED = '<sort><key macro="who"/></sort>'
+WHO = f'<macro name="who">{NAMES}</macro>'
+APE, BEE = entry('ape', 'Ape, A', year=2005), entry('bee', 'Bee, B', year=2001)
+
+
+def test_words_before_a_cite_behind_the_first_keep_the_order(cites):
+    """docs/DECISIONS.md: words of a document's own lead from one cite to the next."""
+    given = [[{'id': 'bee'}, {'id': 'ape', 'prefix': 'see also'}],
+             [{'id': 'bee', 'prefix': 'see'}, {'id': 'ape'}]]
+    told = csl.render(style_of(BOTH, before=WHO, sort=SORTED), [APE, BEE], given)
+    assert told.citations == ['(Bee 2001; see also Ape 2005)', '(Ape 2005; see Bee 2001)']
+
+
+def test_citations_may_be_objects(cites):
+    """csl-citation.json: `unsorted` keeps the order, and `noteIndex` is the number of the note."""
+    items = [{'id': 'bee'}, {'id': 'ape'}]
+    given = [{'citationID': 'x', 'citationItems': items, 'properties': {'unsorted': True}},
+             {'citationID': 'y', 'citationItems': items, 'properties': {'noteIndex': 0}},
+             csl.Citation((csl.Cite('bee'), csl.Cite('ape')), unsorted=True)]
+    told = csl.render(style_of(BOTH, before=WHO, sort=SORTED), [APE, BEE], given)
+    assert told.citations == ['(Bee 2001; Ape 2005)', '(Ape 2005; Bee 2001)',
+                              '(Bee 2001; Ape 2005)']
+    assert told.warnings == []
+
+
+def test_the_note_of_a_citation_goes_before_those_of_its_cites(cites):
+    layout = ('<choose><if position="subsequent"><text variable="first-reference-note-number" '
+              f'prefix="n. "/></if><else>{TITLE}</else></choose>')
+    given = [{'citationItems': [{'id': 'ape', 'note': 5}], 'properties': {'noteIndex': 4}},
+             [{'id': 'bee', 'note': 6}], {'citationItems': [{'id': 'ape'}],
+                                          'properties': {'noteIndex': 7}}]
+    told = csl.render(style_of(layout, style_class='note'), [APE, BEE], given)
+    assert told.citations == ['(Title ape)', '(Title bee)', '(n. 4)']
+    assert [str(warning) for warning in told.warnings] == [
+        "citation 0, cite 0, note: another note than the citation's `noteIndex`, left out"]
+
+
+@pytest.mark.parametrize('citation, said', [
+    ({'citationID': 'x'}, 'citation 0, citationItems: no list of cites'),
+    ({'citationItems': [], 'properties': 7}, 'citation 0, properties: no object'),
+    ({'citationItems': [], 'properties': {'noteIndex': -1}},
+     'citation 0, noteIndex: -1 is not a whole number, the number of a note'),
+    ({'citationItems': [], 'properties': {'unsorted': 'no'}},
+     "citation 0, unsorted: 'no' is not true or false")])
+def test_a_citation_that_is_no_object_of_the_form(citation, said):
+    with pytest.raises(csl.CitationRefused) as refused:
+        csl.render('author-date', [APE], [citation])
+    assert str(refused.value) == said
+
+
 def test_no_cites_collapse_across_words(render):
     """What stands before the first of them stands before all."""
     entries = [entry('one', 'Doe', year=1999), entry('two', 'Doe', year=2004)]

@@ -135,8 +135,9 @@ def cite(style: Union[str, bytes], items: Json, citations: Json, *,
     """Citations and a bibliography by a style file, from texts alone (docs/WRITER.md).
 
     `style` is the text of a style file of CSL 1.0.2, `items` CSL-JSON, and `citations` a list of
-    citations, which are lists of cites: dicts with `id`, and maybe `locator`, `label`, `prefix`,
-    `suffix`, `suppress-author`, `author-only`, `hidden` and `note`. Both may be JSON or its value.
+    citations. These are lists of cites, or objects as in csl-citation.json; cites are dicts with
+    `id`, and maybe `locator`, `label`, `prefix`, `suffix`, `suppress-author`, `author-only`,
+    `hidden` and `note`. Items and citations may be JSON or its value.
     `locales` are the texts of locale files, beside that of American English, which is built in;
     `locale` is a language tag, in place of the style's. With `nocite` all items are listed.
 

@@ -10,7 +10,7 @@ from .._library import CiteTexts
 from ..answer import Answer
 from ..errors import TextRefused
 from ..texts import TextWarning
-from .cites import Cite
+from .cites import Citation
 from .entries import Entry
 from .errors import CitationRefused, EntriesRefused, StyleRefused, place
 from .locales import LocaleFile
@@ -26,15 +26,16 @@ class Document:
     style: Style
     locales: Sequence[LocaleFile]
     entries: Sequence[Entry]
-    citations: Sequence[Sequence[Cite]]
+    citations: Sequence[Citation]
     language: str
 
     def answer(self) -> Answer:
         """The answer. Raises TextRefused where a part of the document is wrong; NumberOverflow or
         OutOfMemory; and LibraryMissing."""
-        cites = [[cite.data() for cite in citation] for citation in self.citations]
+        citations = [citation.data() for citation in self.citations]
         return cite_texts(CiteTexts(
-            style=bytes_of(self.style.text), items=json_of(self.entries), citations=json_of(cites),
+            style=bytes_of(self.style.text), items=json_of(self.entries),
+            citations=json_of(citations),
             locales=json_of([locale.text for locale in self.locales]),
             options=json_of({'locale': self.language})))
 
@@ -47,6 +48,7 @@ class Document:
             where = ', '.join([f'entry {key}', *steps[1:2]]) + _pointer(steps[2:])
             return Warned(where, remark.message, entry=key)
         if remark.file == 'citations' and first is not None:
+            steps = _cite_steps(steps)
             where = place(first, _index(steps, 1), _step(steps, 2))
             return Warned(where, remark.message, citation=first)
         line = '' if remark.line is None else f':{remark.line}:{remark.column}'
@@ -56,7 +58,7 @@ class Document:
         """A fault as an error that tells its place in the document."""
         fault = refusal.fault
         if fault.file == 'citations':
-            steps = steps_of(fault)
+            steps = _cite_steps(steps_of(fault))
             return CitationRefused(_index(steps, 0), _index(steps, 1), _step(steps, 2),
                                    fault.message)
         if fault.file == 'items':
@@ -69,6 +71,11 @@ class Document:
             return self.style.file
         name, slash, number = file.partition('/')
         return self.locales[int(number)].file if slash and name == 'locales' else file
+
+
+def _cite_steps(steps: List[str]) -> List[str]:
+    """The way to a part of a citation, as if the citation were the list of its cites."""
+    return steps[:1] + steps[2:] if steps[1:2] == ['citationItems'] else steps
 
 
 def steps_of(remark: TextWarning) -> List[str]:

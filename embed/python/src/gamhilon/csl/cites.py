@@ -3,13 +3,14 @@ from __future__ import annotations
 
 import reprlib
 from dataclasses import dataclass
-from typing import Any, Dict, Iterator, List, Mapping, Optional, Sequence, Union
+from typing import (Any, Dict, Iterator, List, Mapping, Optional, Sequence, Tuple, Union,
+                    overload)
 
 from .._nearest import meant
 from .errors import CitationRefused, place
 from .warned import Warned
 
-__all__ = ['LABELS', 'Cite', 'CiteLike', 'CitationReader']
+__all__ = ['LABELS', 'Citation', 'CitationLike', 'CitationReader', 'Cite', 'CiteLike']
 
 LABELS = (
     'act', 'appendix', 'article-locator', 'book', 'canon', 'chapter', 'column', 'elocation',
@@ -23,6 +24,8 @@ _OLDER_LABELS = {'sub verbo': 'sub-verbo'}
 _TEXTS = ('id', 'locator', 'label', 'prefix', 'suffix')
 _FLAGS = ('suppress-author', 'author-only', 'hidden')
 _KEYS = (*_TEXTS, *_FLAGS, 'note')
+_CITATION_KEYS = ('schema', 'citationID', 'citationItems', 'properties')
+_PROPERTIES = ('noteIndex', 'unsorted')
 
 
 @dataclass(frozen=True)
@@ -57,22 +60,97 @@ CiteLike = Union[Cite, Mapping[str, Any]]
 `suppress-author`, `author-only`, `hidden`, `note`."""
 
 
+@dataclass(frozen=True)
+class Citation(Sequence[Cite]):
+    """A citation, as a sequence of its cites. `note_index` is the number of the note in which it
+    stands, 0 or None where it tells none. The cites of one that is `unsorted` keep their order.
+
+        >>> seen = Citation((Cite('roe'), Cite('doe99')), note_index=3, unsorted=True)
+        >>> [cite.id for cite in seen]
+        ['roe', 'doe99']
+        >>> seen.data()['properties']
+        {'noteIndex': 3, 'unsorted': True}
+    """
+
+    cites: Tuple[Cite, ...]
+    note_index: Optional[int] = None
+    unsorted: bool = False
+
+    def __len__(self) -> int:
+        return len(self.cites)
+
+    @overload
+    def __getitem__(self, index: int) -> Cite: ...
+
+    @overload
+    def __getitem__(self, index: slice) -> Sequence[Cite]: ...
+
+    def __getitem__(self, index: Union[int, slice]) -> Union[Cite, Sequence[Cite]]:
+        return self.cites[index]
+
+    def data(self) -> Union[List[Any], Dict[str, Any]]:
+        """The citation as JSON has it: a list of cites, or an object where more is said of it."""
+        cites = [cite.data() for cite in self.cites]
+        properties: Dict[str, Any] = {}
+        if self.note_index:
+            properties['noteIndex'] = self.note_index
+        if self.unsorted:
+            properties['unsorted'] = True
+        return {'citationItems': cites, 'properties': properties} if properties else cites
+
+
+CitationLike = Union[Citation, Sequence[CiteLike], Mapping[str, Any]]
+"""A citation, a list of cites, or an object as in csl-citation.json: `citationItems`, and maybe
+`citationID` and `properties` with `noteIndex` and `unsorted`."""
+
+
 class CitationReader:
     """Reads citations, and keeps what is odd in them as `warnings`."""
 
     def __init__(self) -> None:
         self.warnings: List[Warned] = []
 
-    def citations(self, values: Any) -> List[List[Cite]]:
+    def citations(self, values: Any) -> List[Citation]:
         """The citations of a document. Raises CitationRefused where one isn't of its form."""
         if not _is_list(values) and not isinstance(values, Iterator):
             raise CitationRefused(None, None, None, 'the citations are no list of citations')
         return [self._citation(number, value) for number, value in enumerate(values)]
 
-    def _citation(self, number: int, value: Any) -> List[Cite]:
+    def _citation(self, number: int, value: Any) -> Citation:
+        if isinstance(value, Citation):
+            return Citation(self._cites(number, value.cites), value.note_index, value.unsorted)
+        if isinstance(value, Mapping):
+            return self._citation_of_object(number, value)
         if not _is_list(value):
             raise CitationRefused(number, None, None, 'no citation, which is a list of cites')
-        return [self._cite(number, index, cite) for index, cite in enumerate(value)]
+        return Citation(self._cites(number, value))
+
+    def _citation_of_object(self, number: int, value: Mapping[str, Any]) -> Citation:
+        cites, properties = value.get('citationItems'), value.get('properties')
+        if not _is_list(cites):
+            raise CitationRefused(number, None, 'citationItems', 'no list of cites')
+        if not isinstance(properties, (Mapping, type(None))):
+            raise CitationRefused(number, None, 'properties', 'no object')
+        known = properties or {}
+        self._warn_of_keys(number, value, _CITATION_KEYS)
+        self._warn_of_keys(number, known, _PROPERTIES)
+        note, unsorted = known.get('noteIndex'), known.get('unsorted', False)
+        if note is not None and not _is_note(note):
+            fault = f'{reprlib.repr(note)} is not a whole number, the number of a note'
+            raise CitationRefused(number, None, 'noteIndex', fault)
+        if not isinstance(unsorted, bool):
+            fault = f'{reprlib.repr(unsorted)} is not true or false'
+            raise CitationRefused(number, None, 'unsorted', fault)
+        return Citation(self._cites(number, cites), note and int(note), unsorted)
+
+    def _warn_of_keys(self, number: int, value: Mapping[str, Any], keys: Sequence[str]) -> None:
+        for key in map(str, value):
+            if key not in keys:
+                fault = f'citations have no such key, left out{meant(key, keys)}'
+                self.warnings.append(Warned(place(number, None, key), fault, citation=number))
+
+    def _cites(self, number: int, values: Any) -> Tuple[Cite, ...]:
+        return tuple(self._cite(number, index, cite) for index, cite in enumerate(values))
 
     def _cite(self, number: int, index: int, value: Any) -> Cite:
         told = value.data() if isinstance(value, Cite) else value
@@ -108,6 +186,13 @@ def _is_list(value: Any) -> bool:
     return isinstance(value, Sequence) and not isinstance(value, (str, bytes))
 
 
+def _is_note(value: Any) -> bool:
+    """Whether a value is the number of a note."""
+    is_number = isinstance(value, (int, float)) and not isinstance(value, bool)
+    is_whole = is_number and (isinstance(value, int) or value.is_integer())
+    return bool(is_whole and 0 <= value < 2 ** 64)
+
+
 def _value(number: int, index: int, key: str, member: Any) -> Any:
     """The value of a key of a cite. Raises CitationRefused where it is another than the key
     wants."""
@@ -116,8 +201,7 @@ def _value(number: int, index: int, key: str, member: Any) -> Any:
     is_number = isinstance(member, (int, float)) and not isinstance(member, bool)
     if key in _TEXTS and (is_number or isinstance(member, str)):
         return str(member)
-    is_whole = is_number and (isinstance(member, int) or member.is_integer())
-    if key == 'note' and is_whole and 0 <= member < 2 ** 64:
+    if key == 'note' and _is_note(member):
         return int(member)
     wanted = ('true or false' if key in _FLAGS else 'a text or a number' if key in _TEXTS
               else 'a whole number, the number of a note')

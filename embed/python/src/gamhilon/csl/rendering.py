@@ -9,7 +9,7 @@ from .._nearest import meant
 from ..answer import Answer, Item, Node, Tree, plain
 from ..errors import TextRefused
 from .calling import Document, steps_of
-from .cites import Cite, CiteLike, CitationReader
+from .cites import Citation, CitationLike, CitationReader, Cite
 from .entries import Entry, EntryReader, stand_in, warned_of_stand_in
 from .errors import CitationRefused, StyleRefused
 from .handed_in import ReferencesLike, StyleLike, items_of, style_of
@@ -29,7 +29,7 @@ LANGUAGE = 'en-US'
 
 
 def render(style: StyleLike, references: Optional[ReferencesLike] = None,
-           citations: Optional[Iterable[Sequence[CiteLike]]] = None, *,
+           citations: Optional[Iterable[CitationLike]] = None, *,
            nocite: Union[str, Iterable[str]] = (), locale: Optional[str] = None,
            locales: Optional[Locales] = None, entries: Optional[ReferencesLike] = None) -> Rendered:
     """Citations and the bibliography in a style.
@@ -45,7 +45,8 @@ def render(style: StyleLike, references: Optional[ReferencesLike] = None,
         Doe. 1999. On Order.
 
     `style` is a name, a path or the text of a style; `references` are items of CSL-JSON, what
-    `references.load` gives, or the path of a file. `citations` are lists of cites; without them all
+    `references.load` gives, or the path of a file. `citations` are lists of cites, or objects as in
+    csl-citation.json, whose cites keep their order where they are `unsorted`; without citations all
     references are listed. `nocite` are keys that are listed without being cited, `'*'` for all.
     `locale` is the language in place of the style's; `locales` a folder of locale files in place of
     Debian's, or the paths or texts of some. `entries` is the older name of `references`.
@@ -63,7 +64,8 @@ def render(style: StyleLike, references: Optional[ReferencesLike] = None,
     cites = citation_reader.citations(() if citations is None else citations)
     known = entry_reader.entries(items_of(given))
     listed = _listed(known, '*' if citations is None else nocite)
-    asked = [*cites, *([[Cite(key, hidden=True) for key in listed]] if listed else [])]
+    hidden = Citation(tuple(Cite(key, hidden=True) for key in listed))
+    asked = [*cites, hidden] if listed else cites
     language = with_dialect(locale or found.language or LANGUAGE)
     files = files_for(language, locales)
     document = Document(found, files, list(_cited(known, asked).values()), asked, language)
@@ -162,7 +164,7 @@ def _refuse(document: Document) -> List[Warned]:
     return [document.warned(warning) for warning in answer.warnings]
 
 
-def _cited(entries: Dict[str, Entry], citations: Sequence[Sequence[Cite]]) -> Dict[str, Entry]:
+def _cited(entries: Dict[str, Entry], citations: Sequence[Citation]) -> Dict[str, Entry]:
     """The entries that are cited. Raises CitationRefused where one isn't there."""
     cited = set()
     for number, citation in enumerate(citations):
