@@ -122,6 +122,7 @@ def shapes(size):
         return text * (size // len(text.encode()))
 
     count = size // len('\t{\t=A.\t}')
+    deep = size // len('\t{prefix=(|suffix=)\t=A\t}')
     few = many('1, ')[: 3 * (size // 128)] + '2'
     return {
         'words': line('case', 'title', 'en', many('a word ') + 'x',
@@ -132,6 +133,10 @@ def shapes(size):
         'markup': line('rich', 'en-US', many('<i>a</i> '), many('<i>a</i> ')),
         'elements': line('written', 'en-US', '{delimiter=; ', *['{', '=A.', '}'] * count, '}',
                          '; '.join(['A.'] * count)),
+        'nested elements': line('written', 'en-US', *['{prefix=(|suffix=)', '=A'] * deep,
+                                *['}'] * deep, '(A' * deep + ')' * deep),
+        'nested elements without text': line('written', 'en-US', *['{prefix=(|suffix=)'] * deep,
+                                             *['}'] * deep, ''),
         'a page': line('pages', 'minimal', '–', many('1') + '-2', many('1') + '–2'),
         'ranges': line('pages', 'none', '–', many('1-2, '), many('1-2, ').replace('-', '–')),
         'ordinals': line('number', 'en-US', 'ordinal', '', many('1, ') + '2',

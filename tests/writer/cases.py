@@ -23,6 +23,11 @@ def atlas(id):
     return {'id': id, 'type': 'article-newspaper', 'container-title': 'Atlas', 'issued': {'date-parts': [[2001]]}}
 
 
+def located(*cites):
+    """A citation of items with locators."""
+    return [{'id': id, 'locator': '%d' % locator} for id, locator in cites]
+
+
 def several(id, year, *families, title='T'):
     return {'id': id, 'type': 'book', 'title': title, 'author': [{'family': it, 'given': it[0] + 'x'} for it in families],
             'issued': {'date-parts': [[year]]}}
@@ -75,6 +80,23 @@ LOCATED = '<group delimiter=" "><label variable="locator" form="short"/><text va
 AUTHOR_YEAR = '<group delimiter=" ">' + names('form="short" and="text"') + YEAR + '</group>'
 LETTERS = ['Ernst', 'Əliyev', 'Faber', 'Галаган', 'Ежов', 'Єсенін', 'Жук', 'Иванов', 'Іванов', 'Йосип', 'بیت', 'پور', 'کار', 'گل', 'لاله', 'یار']
 COLLATED = ['role', 'Role', 'rôle', 'roles', 'Smith Zed', 'Smithson Al']
+TITLED = [{**PAGE, 'id': it.lower(), 'title': it} for it in 'AB']
+LOCATED_TITLE = '<group delimiter=" "><text variable="title"/><text variable="locator"/></group>'
+# Macros that put a cite with a locator before one without.
+LOCATOR_MACROS = [
+    ('writes a locator', '<text variable="locator"/>'),
+    ('writes the number of a locator', '<number variable="locator"/>'),
+    ('writes the label of a locator', '<label variable="locator"/>'),
+    ('asks for a locator', '<choose><if variable="locator"><text value="1"/></if>'
+     '<else><text value="2"/></else></choose>'),
+    ('asks for the kind of a locator', '<choose><if locator="page"><text value="1"/></if>'
+     '<else><text value="2"/></else></choose>'),
+    ('asks whether a locator is numeric', '<group><choose><if is-numeric="locator">'
+     '<text value="1"/></if><else><text value="2"/></else></choose></group>')]
+# For each character of ASCII four works of one title, behind which two have a dash.
+DASHED = [{'id': '%d %d' % (code, volume), 'type': 'book', 'volume': '%d' % volume,
+           'title': 'a%cB' % code + '—' * (volume % 2)}
+          for code in range(128) for volume in range(4)]
 CHINESE = [{'id': id, 'type': 'book', 'author': [{'family': it[0], 'given': it[1:]} for it in names]}
            for id, names in (('two', ['王小明', '李四']), ('three', ['王小明', '李四', '张三']))]
 VAN_GOGH = {**PAGE, 'author': [{'family': 'Gogh', 'given': 'Vincent', 'dropping-particle': 'de', 'non-dropping-particle': 'van',
@@ -418,6 +440,31 @@ CASES = [
          [{'citationID': 'x', 'citationItems': cites('b', 'a'), 'properties': {'unsorted': True}},
           {'citationID': 'y', 'citationItems': cites('b', 'a'), 'properties': {'unsorted': False, 'noteIndex': 0}}],
          sort='<sort><key variable="author"/></sort>', affixes='delimiter="; "'),
+    cite('cites told apart by a second key', 'Sorting: keys in turn; equal cites stay in order',
+         TEXT, [person('a', 'Bee', 'B', 2001, title='X'), person('b', 'Bee', 'B', 1999, title='Y'),
+                person('c', 'Ape', 'A', 2005, title='Z'), person('d', 'Bee', 'B', 2001, title='W')],
+         ['Z; Y; X', 'Y; W', 'W; X', 'X; W'],
+         [cites('a', 'c', 'b'), cites('d', 'b'), cites('d', 'a'), cites('a', 'd')],
+         sort='<sort><key variable="author"/><key variable="issued"/></sort>',
+         affixes='delimiter="; "'),
+    cite('cites sorted downwards by a second key', 'Sorting: a cite without a value stands last',
+         TEXT, [person('a', 'Bee', 'B', 2001, title='X'), person('b', 'Bee', 'B', 2003, title='Y'),
+                {**PAGE, 'title': 'Z', 'author': [{'family': 'Bee', 'given': 'B'}]}],
+         ['Y; X; Z', 'X; Z', 'Y; Z'],
+         [cites('page', 'a', 'b'), cites('page', 'a'), cites('page', 'b')],
+         sort='<sort><key variable="author"/><key variable="issued" sort="descending"/></sort>',
+         affixes='delimiter="; "'),
+    cite('cites sorted by their locators', 'Sorting: a key is a variable of the cite',
+         LOCATED_TITLE, TITLED, ['A 1; B 3; A 9', 'B; A', 'A 2; B'],
+         [located(('a', 9), ('b', 3), ('a', 1)), cites('b', 'a'),
+          [{'id': 'b'}, {'id': 'a', 'locator': '2'}]],
+         sort='<sort><key variable="locator"/></sort>', affixes='delimiter="; "'),
+    *(cite('cites sorted by a macro that ' + what, 'Sorting: a macro is written of the cite',
+           LOCATED_TITLE, TITLED, ['B 5; A', 'B; A', 'A; B'],
+           [[{'id': 'a'}, {'id': 'b', 'locator': '5'}], cites('b', 'a'), cites('a', 'b')],
+           sort='<sort><key macro="m"/></sort>', affixes='delimiter="; "',
+           macros='<macro name="m">%s</macro>' % content)
+      for what, content in LOCATOR_MACROS),
     item('seasons', 'Sorting: what a date lacks is zero, and a season is no part of a date', TEXT,
          [person('a', 'A', 'A', 2000, title='X'), {**person('b', 'B', 'B', 2000, title='Y'), 'issued': {'date-parts': [[2000, 5]]}},
           {**person('c', 'C', 'C', 2000, title='Z'), 'issued': {'date-parts': [[2000]], 'season': 1}}], ['X', 'Z', 'Y'],
@@ -436,6 +483,11 @@ CASES = [
     item('marks of a transliteration', 'pandoc, citeproc-js: primes and the okina are passed over', TEXT,
          [{**PAGE, 'id': it, 'title': it} for it in ('Mann', 'ʻIolani', 'Grigorz', 'Grigorʹev')],
          ['Grigorʹev', 'Grigorz', 'ʻIolani', 'Mann'], bibliography_sort='<sort><key variable="title"/></sort>'),
+    cite('dashes behind titles', 'Sorting: punctuation is passed over, so these titles are equal',
+         '<text variable="volume"/>', DASHED, ['0 1 2 3'] * 128,
+         [cites(*('%d %d' % (code, volume) for volume in (3, 0, 2, 1))) for code in range(128)],
+         affixes='delimiter=" "',
+         sort='<sort><key variable="title"/><key variable="volume"/></sort>'),
     item('sorted by labels', 'Sorting: the variable `citation-label`', TEXT,
          [person('a', 'Zola', 'Z', 1900, title='X'), person('b', 'Adam', 'A', 1900, title='Y')], ['Y', 'X'],
          bibliography_sort='<sort><key variable="citation-label"/></sort>'),

@@ -4,7 +4,8 @@ use crate::entries::Items;
 use crate::facts::first_cite;
 use crate::setting::Setting;
 use cite_sorting::keys::Key;
-use cite_sorting::order::sorted_places;
+use cite_sorting::order::{sorted_places, tied_places};
+use indexmap::IndexSet;
 use std::alloc::{AllocError, Global};
 
 /// A citation with its cites in the order of the style.
@@ -28,14 +29,10 @@ pub(crate) fn sorted_citations<'d>(
     items: &Items<'d>,
     citations: &'d [Citation],
 ) -> Result<Vec<SortedCitation<'d>>, AllocError> {
-    let keys = setting.programs.citation_keys.as_slice();
+    let ranks = item_ranks(alloc, setting, items, citations)?;
     let mut sorted = Vec::new(alloc);
     for (number, citation) in citations.iter().enumerate() {
-        let places = if keys.is_empty() || citation.keeps_order() {
-            own_places(alloc, citation)?
-        } else {
-            places_by_keys(alloc, setting, keys, items, citation)?
-        };
+        let places = cite_places(alloc, setting, items, citation, ranks.as_slice())?;
         sorted.push(SortedCitation {
             cites: cites_at(alloc, citation, places.as_slice())?,
             places,
@@ -44,6 +41,121 @@ pub(crate) fn sorted_citations<'d>(
         })?;
     }
     Ok(sorted)
+}
+
+/// The places of the cites of a citation in the order of the style, where items have these ranks.
+fn cite_places(
+    alloc: Global,
+    setting: Setting<'_>,
+    items: &Items<'_>,
+    citation: &Citation,
+    ranks: &[usize],
+) -> Result<Vec<usize>, AllocError> {
+    let keys = setting.programs.citation_keys.as_slice();
+    if keys.is_empty() || !is_sorted(citation) {
+        return own_places(alloc, citation);
+    }
+    if keys.iter().any(|key| key.reads_locator()) && has_locator(citation) {
+        return places_by_keys(alloc, setting, keys, items, citation);
+    }
+    places_by_ranks(alloc, items, citation, ranks)
+}
+
+/// Whether the cites of a citation are sorted, where the style has keys.
+fn is_sorted(citation: &Citation) -> bool {
+    citation.cites.len() > 1 && !citation.keeps_order()
+}
+
+fn has_locator(citation: &Citation) -> bool {
+    citation.cites.iter().any(|cite| cite.locator.is_some())
+}
+
+/// The ranks of items by the keys of citations, at the places of the items. Those of which all keys
+/// are equal have one rank. An item that is in no citation that is sorted has none of its own.
+fn item_ranks(
+    alloc: Global,
+    setting: Setting<'_>,
+    items: &Items<'_>,
+    citations: &[Citation],
+) -> Result<Vec<usize>, AllocError> {
+    let keys = setting.programs.citation_keys.as_slice();
+    let mut ranks = Vec::new(alloc);
+    if keys.is_empty() {
+        return Ok(ranks);
+    }
+    ranks.resize(items.references.len(), 0)?;
+    let compared = compared_items(alloc, items, citations)?;
+    let mut facts = Vec::new(alloc);
+    for item in &compared {
+        if let Some(reference) = items.reference(*item) {
+            facts.push(first_cite(reference, None, item.saturating_add(1)))?;
+        }
+    }
+    let ties = tied_places(alloc, setting.cite_keys(), keys, facts.as_slice())?;
+    for (rank, tied) in ties.iter().enumerate() {
+        for place in tied {
+            if let Some(item) = compared.get(*place) {
+                set_rank(&mut ranks, *item, rank);
+            }
+        }
+    }
+    Ok(ranks)
+}
+
+fn set_rank(ranks: &mut Vec<usize>, item: usize, rank: usize) {
+    if let Some(known) = ranks.get_mut(item) {
+        *known = rank;
+    }
+}
+
+/// The items of citations that are sorted.
+fn compared_items(
+    alloc: Global,
+    items: &Items<'_>,
+    citations: &[Citation],
+) -> Result<Vec<usize>, AllocError> {
+    let mut seen = IndexSet::new(alloc);
+    let mut compared = Vec::new(alloc);
+    for citation in citations {
+        if !is_sorted(citation) {
+            continue;
+        }
+        for cite in &citation.cites {
+            let item = items.place(cite.id.as_str()).unwrap_or(0);
+            if seen.insert(item)? {
+                compared.push(item)?;
+            }
+        }
+    }
+    Ok(compared)
+}
+
+/// The places of the cites of a citation, in the order of the ranks of their items.
+fn places_by_ranks(
+    alloc: Global,
+    items: &Items<'_>,
+    citation: &Citation,
+    ranks: &[usize],
+) -> Result<Vec<usize>, AllocError> {
+    let mut rows = Vec::new(alloc);
+    for (place, cite) in citation.cites.iter().enumerate() {
+        let item = items.place(cite.id.as_str()).unwrap_or(0);
+        let rank = ranks.get(item).copied().unwrap_or(0);
+        rows.push(Row { rank, place })?;
+    }
+    rows.sort()?;
+    let mut places = Vec::new(alloc);
+    for row in &rows {
+        places.push(row.place)?;
+    }
+    Ok(places)
+}
+
+/// A cite with the rank of its item. Where this is the same, cites are in their own order.
+#[derive(Clone, Copy, PartialEq, Eq, PartialOrd, Ord)]
+struct Row {
+    rank: usize,
+    place: usize,
 }
 
 /// The places of the cites of a citation, in their order.

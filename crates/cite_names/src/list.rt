@@ -8,7 +8,6 @@ use cite_pieces::output::{Element, Output, element_with};
 use cite_pieces::piece::Mark;
 use csl_base::names::DisambiguatedNameForm;
 use csl_references::name::Name;
-use csl_references::rich_text::RichText;
 use csl_vocabulary::variable::NameVariable;
 use std::alloc::{AllocError, Global};
 use style_file::formatting::Formatting;
@@ -192,7 +191,7 @@ impl<'s> NameList<'s, '_> {
                 output.close()?;
                 output.open(self.affixes_of(affixed))?;
             }
-            self.push_part(alloc, output, &part)?;
+            self.push_part(output, &part)?;
         }
         output.close()?;
         output.close()?;
@@ -216,19 +215,12 @@ impl<'s> NameList<'s, '_> {
         }
     }
 
-    fn push_part(
-        &self,
-        alloc: Global,
-        output: &mut Output<'s>,
-        part: &WrittenPart,
-    ) -> Result<(), AllocError> {
-        let setting = self.setting_of(part.role);
-        let text = RichText::of_markup(alloc, part.text.as_str())?;
-        let Some(setting) = setting else {
-            return output.push_rich(&text);
+    fn push_part(&self, output: &mut Output<'s>, part: &WrittenPart) -> Result<(), AllocError> {
+        let Some(setting) = self.setting_of(part.role) else {
+            return output.push_markup(part.text.as_str());
         };
         output.open(part_element(setting))?;
-        output.push_rich(&text)?;
+        output.push_markup(part.text.as_str())?;
         output.close()?;
         Ok(())
     }

@@ -3,11 +3,10 @@ use crate::cases::{in_case, without_periods};
 use crate::formatting::NOTHING_ASKED;
 use crate::piece::{Mark, QuoteSource, Wrap};
 use crate::pieces::Pieces;
-use crate::rich::rich_pieces;
-use csl_references::rich_text::RichText;
+use crate::rich::{has_quotes, is_plain, rich_pieces};
+use csl_references::rich_text::{RichText, Run, RunStyle};
 use csl_texts::cases::Language;
 use std::alloc::{AllocError, Global};
-use std::mem::replace;
 use style_file::formatting::{Affixes, Display, Formatting, TextCase};
 
 /// Where affixes stand (CSL 1.0.2, Affixes).
@@ -54,6 +53,11 @@ impl Element<'_> {
         strips_periods: false,
         mark: None,
     };
+
+    /// Whether its content is changed once it is written.
+    fn changes_content(&self) -> bool {
+        self.text_case.is_some() || self.strips_periods
+    }
 }
 
 /// An element with these affixes outside, this formatting, and nothing else.
@@ -71,16 +75,24 @@ pub fn element_with(affixes: &Affixes, formatting: Formatting) -> Element<'_> {
 pub struct Output<'s> {
     alloc: Global,
     language: Language,
-    /// The content of the innermost element that is open.
+    /// All that is written, of all elements that are open.
     content: Pieces,
     open: Vec<OpenElement<'s>>,
+    /// How many of the open elements, from the outermost on, have begun in the stream.
+    begun: usize,
 }
 
-/// An element that is open, and what is written before it in the element around it.
-#[derive(Drop)]
+/// An element that is open. It begins in the stream with its first piece: one that gets none leaves
+/// nothing there.
+#[derive(Clone, Copy)]
 struct OpenElement<'s> {
     element: Element<'s>,
-    before: Pieces,
+    /// Where it begins in the stream, with the delimiter before it.
+    start: usize,
+    /// Where its content begins.
+    inside: usize,
+    /// Whether its content has text.
+    has_text: bool,
 }
 
 impl<'s> Output<'s> {
@@ -91,6 +103,7 @@ impl<'s> Output<'s> {
             language,
             content: Pieces::new(alloc),
             open: Vec::new(alloc),
+            begun: 0,
         }
     }
 
@@ -104,12 +117,6 @@ impl<'s> Output<'s> {
         self.language
     }
 
-    /// Whether the innermost element that is open has no text; where none is open, whether nothing
-    /// has been written.
-    pub fn has_no_text(&self) -> bool {
-        self.content.has_no_text()
-    }
-
     /// How many elements are open.
     pub fn depth(&self) -> usize {
         self.open.len()
@@ -118,17 +125,26 @@ impl<'s> Output<'s> {
     /// How many pieces the innermost element that is open has; where none is open, how many have
     /// been written.
     pub fn piece_count(&self) -> usize {
-        self.content.as_slice().len()
+        let inside = match self.open.last() {
+            Some(innermost) => innermost.inside,
+            None => 0,
+        };
+        self.content.len().saturating_sub(inside)
     }
 
     /// Opens an element in the innermost one.
     ///
     /// # Errors
     ///
-    /// Where memory is refused; what was written in the innermost element is lost then.
+    /// Where memory is refused.
     pub fn open(&mut self, element: Element<'s>) -> Result<(), AllocError> {
-        let before = replace(&mut self.content, Pieces::new(self.alloc));
-        self.open.push(OpenElement { element, before })?;
+        let end = self.content.len();
+        self.open.push(OpenElement {
+            element,
+            start: end,
+            inside: end,
+            has_text: false,
+        })?;
         Ok(())
     }
 
@@ -138,25 +154,38 @@ impl<'s> Output<'s> {
     ///
     /// # Errors
     ///
-    /// Where memory is refused; what was written in the element is lost then.
+    /// Where memory is refused; what was written is of no use then.
     pub fn close(&mut self) -> Result<bool, AllocError> {
-        let Some(OpenElement { element, before }) = self.open.pop() else {
+        let Some(closed) = self.open.pop() else {
             return Ok(false);
         };
-        let content = replace(&mut self.content, before);
-        if content.has_no_text() {
+        self.begun = self.begun.min(self.open.len());
+        if !closed.has_text {
+            self.content.truncate(closed.start);
             return Ok(false);
         }
-        let written = written(self.alloc, element, content, self.language)?;
-        self.push_child(written)?;
+        if closed.element.changes_content() {
+            let content = self.content.split_off(self.alloc, closed.start)?;
+            let written = written(self.alloc, closed.element, content, self.language)?;
+            self.push_child(written)?;
+            return Ok(true);
+        }
+        push_end(
+            self.alloc,
+            &mut self.content,
+            &closed.element,
+            closed.inside,
+        )?;
+        self.note_text();
         Ok(true)
     }
 
     /// Closes the innermost element, which leaves nothing. Tells whether one was open.
     pub fn discard(&mut self) -> bool {
         match self.open.pop() {
-            Some(OpenElement { element: _, before }) => {
-                self.content = before;
+            Some(closed) => {
+                self.begun = self.begun.min(self.open.len());
+                self.content.truncate(closed.start);
                 true
             }
             None => false,
@@ -165,8 +194,12 @@ impl<'s> Output<'s> {
 
     /// Lets the innermost element be marked as nothing.
     pub fn unmark(&mut self) {
-        if let Some(open) = self.open.last_mut() {
-            open.element.mark = None;
+        let Some(innermost) = self.open.last_mut() else {
+            return;
+        };
+        innermost.element.mark = None;
+        if self.content.remove_mark(innermost.start, innermost.inside) {
+            innermost.inside = innermost.inside.saturating_sub(1);
         }
     }
 
@@ -176,7 +209,13 @@ impl<'s> Output<'s> {
     ///
     /// Where memory is refused.
     pub fn push_str(&mut self, text: &str) -> Result<(), AllocError> {
-        self.content.push_str(self.alloc, text)
+        if text.is_empty() {
+            return Ok(());
+        }
+        self.begin()?;
+        self.content.push_str(self.alloc, text)?;
+        self.note_text();
+        Ok(())
     }
 
     /// Adds a text with markup to the innermost element, as the fields of an entry have it. Quotes
@@ -186,7 +225,35 @@ impl<'s> Output<'s> {
     ///
     /// Where memory is refused.
     pub fn push_rich(&mut self, text: &RichText) -> Result<(), AllocError> {
-        self.content.push_pieces(rich_pieces(self.alloc, text)?)
+        if has_quotes(text) {
+            return self.push_pieces(rich_pieces(self.alloc, text)?);
+        }
+        for run in &text.runs {
+            self.push_run(run)?;
+        }
+        Ok(())
+    }
+
+    /// Adds a run without quotes.
+    fn push_run(&mut self, run: &Run) -> Result<(), AllocError> {
+        if run.style == RunStyle::PLAIN {
+            return self.push_str(run.text.as_str());
+        }
+        let inside = Pieces::of_str(self.alloc, run.text.as_str())?;
+        self.push_wrapped(Wrap::Markup(run.style), inside)
+    }
+
+    /// Adds a text to the innermost element that is written with the markup of CSL-JSON, as
+    /// `push_rich` does.
+    ///
+    /// # Errors
+    ///
+    /// Where memory is refused.
+    pub fn push_markup(&mut self, markup: &str) -> Result<(), AllocError> {
+        if is_plain(markup) {
+            return self.push_str(markup);
+        }
+        self.push_rich(&RichText::of_markup(self.alloc, markup)?)
     }
 
     /// Adds a stream that leads to an address.
@@ -195,7 +262,18 @@ impl<'s> Output<'s> {
     ///
     /// Where memory is refused.
     pub fn push_link(&mut self, inside: Pieces, address: String) -> Result<(), AllocError> {
-        self.content.push_wrapped(Wrap::Link(address), inside)
+        self.push_wrapped(Wrap::Link(address), inside)
+    }
+
+    /// Adds a stream with something around it.
+    fn push_wrapped(&mut self, wrap: Wrap, inside: Pieces) -> Result<(), AllocError> {
+        let has_text = !inside.has_no_text();
+        self.begin()?;
+        self.content.push_wrapped(wrap, inside)?;
+        if has_text {
+            self.note_text();
+        }
+        Ok(())
     }
 
     /// Adds a stream to the innermost element, without a delimiter.
@@ -204,24 +282,23 @@ impl<'s> Output<'s> {
     ///
     /// Where memory is refused.
     pub fn push_pieces(&mut self, pieces: Pieces) -> Result<(), AllocError> {
-        self.content.push_pieces(pieces)
+        let has_text = !pieces.has_no_text();
+        self.begin()?;
+        self.content.push_pieces(pieces)?;
+        if has_text {
+            self.note_text();
+        }
+        Ok(())
     }
 
     /// Adds a stream to the innermost element as a child of it: where both have text, its delimiter
     /// stands between.
-    ///
-    /// # Errors
-    ///
-    /// Where memory is refused.
-    pub fn push_child(&mut self, child: Pieces) -> Result<(), AllocError> {
-        let delimiter = match self.open.last() {
-            Some(parent) => parent.element.delimiter,
-            None => "",
-        };
-        if !delimiter.is_empty() && !self.has_no_text() && !child.has_no_text() {
-            self.content.push_str(self.alloc, delimiter)?;
+    fn push_child(&mut self, child: Pieces) -> Result<(), AllocError> {
+        if !child.has_no_text() {
+            let delimiter = self.delimiter_at(self.open.len());
+            self.push_str(delimiter)?;
         }
-        self.content.push_pieces(child)
+        self.push_pieces(child)
     }
 
     /// Closes all elements, and gives what is written.
@@ -235,6 +312,49 @@ impl<'s> Output<'s> {
             output.close()?;
         }
         Ok(output.content)
+    }
+
+    /// Lets the open elements begin in the stream, as a piece of the innermost one follows.
+    fn begin(&mut self) -> Result<(), AllocError> {
+        for depth in self.begun..self.open.len() {
+            self.begin_at(depth)?;
+        }
+        self.begun = self.open.len();
+        Ok(())
+    }
+
+    /// Lets the open element in so many others begin, behind the delimiter of the one around it. Of
+    /// one that changes its content, what stands around that is written when it is closed.
+    fn begin_at(&mut self, depth: usize) -> Result<(), AllocError> {
+        let delimiter = self.delimiter_at(depth);
+        let Some(open) = self.open.get_mut(depth) else {
+            return Ok(());
+        };
+        open.start = self.content.len();
+        if !open.element.changes_content() {
+            self.content.push_str(self.alloc, delimiter)?;
+            push_start(self.alloc, &mut self.content, &open.element)?;
+        }
+        open.inside = self.content.len();
+        Ok(())
+    }
+
+    /// What stands before a child with text that is in so many of the open elements.
+    fn delimiter_at(&self, depth: usize) -> &'s str {
+        let Some(around) = depth.checked_sub(1) else {
+            return "";
+        };
+        match self.open.get(around) {
+            Some(around) if around.has_text => around.element.delimiter,
+            _ => "",
+        }
+    }
+
+    /// Text has been written in the innermost element.
+    fn note_text(&mut self) {
+        if let Some(innermost) = self.open.last_mut() {
+            innermost.has_text = true;
+        }
     }
 }
 
@@ -250,49 +370,76 @@ pub fn written(
     language: Language,
 ) -> Result<Pieces, AllocError> {
     let content = changed(alloc, content, element, language)?;
-    let mut inside = Pieces::new(alloc);
-    if element.affixes == AffixPlace::Inside {
-        inside.push_str(alloc, element.prefix)?;
-    }
-    inside.push_pieces(content)?;
-    if element.affixes == AffixPlace::Inside {
-        inside.push_suffix(alloc, element.suffix)?;
-    }
-    let set = set(alloc, element, inside)?;
-    let Some(display) = element.display else {
-        return Ok(set);
-    };
     let mut out = Pieces::new(alloc);
-    out.push_wrapped(Wrap::Display(display), set)?;
+    push_start(alloc, &mut out, &element)?;
+    let inside = out.len();
+    out.push_pieces(content)?;
+    push_end(alloc, &mut out, &element, inside)?;
     Ok(out)
 }
 
-/// The content in the formatting and the quotes of an element, and in its affixes where these stand
-/// outside.
-fn set(alloc: Global, element: Element<'_>, content: Pieces) -> Result<Pieces, AllocError> {
-    let mut formatted = content;
-    if element.formatting != NOTHING_ASKED {
-        formatted = wrapped(alloc, Wrap::Formatting(element.formatting), formatted)?;
+/// Adds what stands before the content of an element: what its display sets off, its prefix, its
+/// quotes, its mark and its formatting.
+fn push_start(alloc: Global, out: &mut Pieces, element: &Element<'_>) -> Result<(), AllocError> {
+    if let Some(display) = element.display {
+        out.open(Wrap::Display(display))?;
+    }
+    if element.affixes == AffixPlace::Outside {
+        out.push_str(alloc, element.prefix)?;
+    }
+    open_wraps(out, element)?;
+    if element.affixes == AffixPlace::Inside {
+        out.push_str(alloc, element.prefix)?;
+    }
+    Ok(())
+}
+
+/// Opens the quotes, the mark and the formatting of an element.
+fn open_wraps(out: &mut Pieces, element: &Element<'_>) -> Result<(), AllocError> {
+    if element.has_quotes {
+        out.open(Wrap::Quotes(QuoteSource::Style))?;
     }
     if let Some(mark) = element.mark {
-        formatted = wrapped(alloc, Wrap::Mark(mark), formatted)?;
+        out.open(Wrap::Mark(mark))?;
     }
-    if element.has_quotes {
-        formatted = wrapped(alloc, Wrap::Quotes(QuoteSource::Style), formatted)?;
+    if element.formatting != NOTHING_ASKED {
+        out.open(Wrap::Formatting(element.formatting))?;
     }
-    if element.affixes == AffixPlace::Inside {
-        return Ok(formatted);
-    }
-    let mut out = Pieces::of_str(alloc, element.prefix)?;
-    out.push_pieces(formatted)?;
-    out.push_str(alloc, element.suffix)?;
-    Ok(out)
+    Ok(())
 }
 
-fn wrapped(alloc: Global, wrap: Wrap, inside: Pieces) -> Result<Pieces, AllocError> {
-    let mut out = Pieces::new(alloc);
-    out.push_wrapped(wrap, inside)?;
-    Ok(out)
+/// Closes what `open_wraps` opens.
+fn close_wraps(out: &mut Pieces, element: &Element<'_>) -> Result<(), AllocError> {
+    if element.has_quotes {
+        out.close()?;
+    }
+    if element.mark.is_some() {
+        out.close()?;
+    }
+    if element.formatting != NOTHING_ASKED {
+        out.close()?;
+    }
+    Ok(())
+}
+
+/// Adds what stands behind the content of an element, which begins at this place.
+fn push_end(
+    alloc: Global,
+    out: &mut Pieces,
+    element: &Element<'_>,
+    inside: usize,
+) -> Result<(), AllocError> {
+    if element.affixes == AffixPlace::Inside {
+        out.push_suffix(alloc, element.suffix, inside)?;
+    }
+    close_wraps(out, element)?;
+    if element.affixes == AffixPlace::Outside {
+        out.push_str(alloc, element.suffix)?;
+    }
+    if element.display.is_some() {
+        out.close()?;
+    }
+    Ok(())
 }
 
 /// The content with the changes that an element makes in it.

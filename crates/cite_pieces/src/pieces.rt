@@ -81,18 +81,29 @@ impl Pieces {
     ///
     /// Where memory is refused; the stream stays as it is.
     pub fn push_str(&mut self, alloc: Global, text: &str) -> Result<(), AllocError> {
+        if text.is_empty() {
+            return Ok(());
+        }
         self.push_text(String::from_str(alloc, text)?)
     }
 
-    /// Adds a copy of a text at the end: inside what `display` sets off, where the stream ends
-    /// with that.
+    /// Adds a copy of a text at the end: inside what `display` sets off, where what begins at
+    /// `start` ends with that.
     ///
     /// # Errors
     ///
     /// Where memory is refused; the stream stays as it is.
-    pub fn push_suffix(&mut self, alloc: Global, text: &str) -> Result<(), AllocError> {
-        match self.end_of_display(alloc)? {
-            Some(place) if !text.is_empty() && place <= self.pieces.len() => {
+    pub(crate) fn push_suffix(
+        &mut self,
+        alloc: Global,
+        text: &str,
+        start: usize,
+    ) -> Result<(), AllocError> {
+        if text.is_empty() {
+            return Ok(());
+        }
+        match self.end_of_display(alloc, start)? {
+            Some(place) if place <= self.pieces.len() => {
                 let text = String::from_str(alloc, text)?;
                 self.pieces.insert(place, Piece::Text(text))?;
                 Ok(())
@@ -101,11 +112,11 @@ impl Pieces {
         }
     }
 
-    /// Where what `display` sets off ends, if the stream ends with that.
-    fn end_of_display(&self, alloc: Global) -> Result<Option<usize>, AllocError> {
+    /// Where what `display` sets off ends, if what begins at `start` ends with that.
+    fn end_of_display(&self, alloc: Global, start: usize) -> Result<Option<usize>, AllocError> {
         let mut are_displays = Vec::new(alloc);
         let mut end = None;
-        for (place, piece) in self.pieces.iter().enumerate() {
+        for (place, piece) in self.pieces.iter().enumerate().skip(start) {
             match piece {
                 Piece::Text(_) => end = None,
                 Piece::Open(wrap) => {
@@ -145,6 +156,46 @@ impl Pieces {
         self.open(wrap)?;
         self.push_pieces(inside)?;
         self.close()
+    }
+
+    pub(crate) fn len(&self) -> usize {
+        self.pieces.len()
+    }
+
+    /// Leaves the pieces before this place.
+    pub(crate) fn truncate(&mut self, end: usize) {
+        self.pieces.truncate(end);
+    }
+
+    /// Takes off the pieces from this place on.
+    pub(crate) fn split_off(&mut self, alloc: Global, start: usize) -> Result<Pieces, AllocError> {
+        if start >= self.pieces.len() {
+            return Ok(Pieces::new(alloc));
+        }
+        Ok(Pieces {
+            pieces: self.pieces.split_off(start)?,
+        })
+    }
+
+    /// Removes what opens the first mark between these places. Tells whether there was one.
+    pub(crate) fn remove_mark(&mut self, start: usize, end: usize) -> bool {
+        match self.mark_between(start, end) {
+            Some(place) if place < self.pieces.len() => {
+                self.pieces.remove(place);
+                true
+            }
+            _ => false,
+        }
+    }
+
+    /// Where the first mark between these places begins.
+    fn mark_between(&self, start: usize, end: usize) -> Option<usize> {
+        for place in start..end {
+            if matches!(self.pieces.get(place), Some(Piece::Open(Wrap::Mark(_)))) {
+                return Some(place);
+            }
+        }
+        None
     }
 
     pub(crate) fn open(&mut self, wrap: Wrap) -> Result<(), AllocError> {

@@ -1,11 +1,11 @@
 //! Texts with markup, as the fields of an entry have it, and the quotes in them.
 use crate::piece::{QuoteSource, Wrap};
 use crate::pieces::Pieces;
-use csl_references::rich_text::{RichText, Run, RunStyle};
+use csl_references::rich_text::{RichText, RunStyle};
 use std::alloc::{AllocError, Global};
 use std::mem::replace;
 
-/// The pieces of a text with markup.
+/// The pieces of a text with markup that has quotes.
 ///
 /// Quotes stand between straight or curly marks, double or single. A mark without a partner is
 /// text, and a straight single one is an apostrophe then.
@@ -14,9 +14,6 @@ use std::mem::replace;
 ///
 /// Where memory is refused.
 pub(crate) fn rich_pieces(alloc: Global, text: &RichText) -> Result<Pieces, AllocError> {
-    if !text.runs.iter().any(has_marks) {
-        return pieces_of_runs(alloc, text);
-    }
     let letters = letters(alloc, text)?;
     let roles = roles(alloc, &letters)?;
     let mut writer = Writer {
@@ -33,25 +30,22 @@ pub(crate) fn rich_pieces(alloc: Global, text: &RichText) -> Result<Pieces, Allo
     Ok(writer.out)
 }
 
-/// Whether a run has something that may be a quotation mark or an apostrophe.
-fn has_marks(run: &Run) -> bool {
-    run.text
-        .as_str()
-        .contains(|c: char| matches!(c, '"' | '\'' | '“' | '”' | '‘' | '’'))
+/// Whether a text has something that may be a quotation mark or an apostrophe.
+pub(crate) fn has_quotes(text: &RichText) -> bool {
+    text.runs
+        .iter()
+        .any(|run| run.text.as_str().contains(is_quote))
 }
 
-/// The pieces of a text without quotes.
-fn pieces_of_runs(alloc: Global, text: &RichText) -> Result<Pieces, AllocError> {
-    let mut out = Pieces::new(alloc);
-    for run in &text.runs {
-        let inside = Pieces::of_str(alloc, run.text.as_str())?;
-        if run.style == RunStyle::PLAIN {
-            out.push_pieces(inside)?;
-        } else {
-            out.push_wrapped(Wrap::Markup(run.style), inside)?;
-        }
-    }
-    Ok(out)
+/// Whether a text with the markup of CSL-JSON has neither tags nor what may be a quotation mark or
+/// an apostrophe.
+pub(crate) fn is_plain(markup: &str) -> bool {
+    !markup.contains(|c: char| c == '<' || is_quote(c))
+}
+
+/// Whether a character may be a quotation mark or an apostrophe.
+fn is_quote(c: char) -> bool {
+    matches!(c, '"' | '\'' | '“' | '”' | '‘' | '’')
 }
 
 /// A character and the markup around it.

@@ -36,11 +36,10 @@ impl CollationKey {
         text: &str,
         own: &[OwnLetter],
     ) -> Result<CollationKey, AllocError> {
-        let mut key = CollationKey {
-            letters: String::new(alloc),
-            accents: String::new(alloc),
-            case: String::new(alloc),
-        };
+        if text.is_ascii() && !own.iter().any(|letter| letter.0.is_ascii()) {
+            return CollationKey::of_ascii(alloc, text);
+        }
+        let mut key = CollationKey::empty(alloc);
         let decomposed = to_nfd(alloc, text)?;
         let composed = to_nfc(alloc, text)?;
         let folded = default_case_fold_str(alloc, composed.as_str())?;
@@ -57,6 +56,38 @@ impl CollationKey {
         Ok(key)
     }
 
+    /// The key of a text of ASCII, in a language with none of its letters of its own. No table is
+    /// needed: nothing in it is decomposed, and only the case of letters is folded.
+    fn of_ascii(alloc: Global, text: &str) -> Result<CollationKey, AllocError> {
+        let mut key = CollationKey::empty(alloc);
+        for c in text.chars() {
+            if c.is_ascii_alphabetic() {
+                key.case
+                    .push(if c.is_ascii_uppercase() { '1' } else { '0' })?;
+            }
+            if c.is_ascii_alphanumeric() {
+                key.push_letter(c.to_ascii_lowercase())?;
+            } else {
+                key.push(c)?;
+            }
+        }
+        Ok(key)
+    }
+
+    fn empty(alloc: Global) -> CollationKey {
+        CollationKey {
+            letters: String::new(alloc),
+            accents: String::new(alloc),
+            case: String::new(alloc),
+        }
+    }
+
+    /// Adds a letter or a digit without an accent.
+    fn push_letter(&mut self, c: char) -> Result<(), AllocError> {
+        self.letters.push(c)?;
+        self.accents.push(' ')
+    }
+
     /// Adds a character of a decomposed text in small letters.
     fn push(&mut self, c: char) -> Result<(), AllocError> {
         if c == SEPARATOR || c == BEHIND {
@@ -65,15 +96,15 @@ impl CollationKey {
         if c == BETWEEN_NAMES {
             return self.letters.push(AFTER_SPACE);
         }
-        if is_combining_mark(c) {
-            return self.accents.push(c);
-        }
         if c.is_whitespace() {
             let is_doubled = self.letters.as_str().ends_with(' ');
             if self.letters.is_empty() || is_doubled {
                 return Ok(());
             }
             return self.letters.push(' ');
+        }
+        if is_combining_mark(c) {
+            return self.accents.push(c);
         }
         if is_mark(c) || !c.is_alphanumeric() {
             return Ok(());
@@ -83,10 +114,7 @@ impl CollationKey {
                 self.letters.push_str(letters)?;
                 self.accents.push(c)
             }
-            None => {
-                self.letters.push(c)?;
-                self.accents.push(' ')
-            }
+            None => self.push_letter(c),
         }
     }
 }

@@ -7,15 +7,17 @@ use cite_names::parts::{may_be_inverted, parts_of};
 use cite_names::rules::{HandedDown, NameRules};
 use cite_pieces::piece::Piece;
 use cite_pieces::pieces::Pieces;
-use cite_program::program::Program;
+use cite_program::program::{Program, Step};
 use cite_walk::cite::{CiteFacts, Scene, SceneKind};
 use cite_walk::labels::label_of;
 use cite_walk::sorted::sorted_number;
 use cite_walk::walk::write_cite;
 use csl_base::names::DisambiguatedNameForm;
 use csl_references::name::Name;
-use csl_vocabulary::variable::{NameVariable, TextVariable, Variable};
+use csl_vocabulary::variable::{NameVariable, NumberVariable, TextVariable, Variable};
 use std::alloc::{AllocError, Global};
+use style_file::choose::Test;
+use style_file::element::TextSource;
 use style_file::names::{InheritedNameOptions, NameForm};
 use style_file::sections::{SortBy, SortKey};
 use style_file::style::CslStyle;
@@ -25,6 +27,42 @@ use style_file::style::CslStyle;
 pub struct Key<'s> {
     pub key: SortKey,
     pub program: Option<Program<'s>>,
+}
+
+impl Key<'_> {
+    /// Whether its value may depend on the locator of a cite.
+    pub fn reads_locator(&self) -> bool {
+        match (self.key.by, &self.program) {
+            (SortBy::Variable(variable), _) => is_locator(variable),
+            (SortBy::Macro(_), Some(program)) => program.steps.iter().any(step_reads_locator),
+            (SortBy::Macro(_), None) => false,
+        }
+    }
+}
+
+fn is_locator(variable: Variable) -> bool {
+    variable == Variable::Number(NumberVariable::Locator)
+}
+
+fn step_reads_locator(step: &Step<'_>) -> bool {
+    match step {
+        Step::Text(text) => match &text.source {
+            TextSource::Number(variable) => *variable == NumberVariable::Locator,
+            _ => false,
+        },
+        Step::Number(number) => number.variable == NumberVariable::Locator,
+        Step::Label(label) => label.variable == NumberVariable::Locator,
+        Step::Test { branch, .. } => branch.tests.iter().any(test_reads_locator),
+        _ => false,
+    }
+}
+
+fn test_reads_locator(test: &Test) -> bool {
+    match test {
+        Test::Locator(_) => true,
+        Test::Variable(variable) | Test::IsNumeric(variable) => is_locator(*variable),
+        _ => false,
+    }
 }
 
 /// What the values of keys depend on, beside the items.

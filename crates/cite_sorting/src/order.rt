@@ -6,6 +6,7 @@ use cite_program::program::ProgramError;
 use cite_walk::cite::CiteFacts;
 use std::alloc::{AllocError, Global};
 use std::cmp::Reverse;
+use std::mem::replace;
 use style_file::sections::{SortBy, SortDirection, SortKey};
 use style_file::style::CslStyle;
 
@@ -45,28 +46,112 @@ pub fn sorted_places<'s>(
     keys: &'s [Key<'s>],
     cites: &[CiteFacts<'_>],
 ) -> Result<Vec<usize>, AllocError> {
-    let mut rows = Vec::new(alloc);
-    for (place, cite) in cites.iter().enumerate() {
-        let mut values = Vec::new(alloc);
-        for key in keys {
-            let value = scene.value(alloc, key, *cite)?;
-            values.push(Value::of_key(value, key.key.direction))?;
-        }
-        rows.push(Row { values, place })?;
-    }
-    rows.sort()?;
     let mut places = Vec::new(alloc);
-    for row in &rows {
-        places.push(row.place)?;
+    for ties in tied_places(alloc, scene, keys, cites)? {
+        for place in ties {
+            places.push(place)?;
+        }
     }
     Ok(places)
 }
 
-/// A cite with the values of its keys. Where these are equal, cites are in the order of their
-/// places.
+/// The places of cites in the order of the keys, those together of which all keys are equal. A key
+/// is written only of cites that those before it don't tell apart.
+///
+/// # Errors
+///
+/// Where memory is refused.
+pub fn tied_places<'s>(
+    alloc: Global,
+    scene: KeyScene<'s>,
+    keys: &'s [Key<'s>],
+    cites: &[CiteFacts<'_>],
+) -> Result<Vec<Vec<usize>>, AllocError> {
+    let mut all = Vec::new(alloc);
+    for (place, _) in cites.iter().enumerate() {
+        all.push(place)?;
+    }
+    let mut ties = Vec::new(alloc);
+    ties.push(all)?;
+    for key in keys {
+        ties = told_apart(alloc, scene, key, cites, ties)?;
+    }
+    Ok(ties)
+}
+
+/// Cites that are tied, told apart by one more key.
+fn told_apart<'s>(
+    alloc: Global,
+    scene: KeyScene<'s>,
+    key: &'s Key<'s>,
+    cites: &[CiteFacts<'_>],
+    ties: Vec<Vec<usize>>,
+) -> Result<Vec<Vec<usize>>, AllocError> {
+    let mut finer = Vec::new(alloc);
+    for tied in ties {
+        if tied.len() < 2 {
+            finer.push(tied)?;
+        } else {
+            push_told_apart(alloc, scene, key, cites, tied, &mut finer)?;
+        }
+    }
+    Ok(finer)
+}
+
+/// Adds cites that are tied, told apart by one more key.
+fn push_told_apart<'s>(
+    alloc: Global,
+    scene: KeyScene<'s>,
+    key: &'s Key<'s>,
+    cites: &[CiteFacts<'_>],
+    tied: Vec<usize>,
+    finer: &mut Vec<Vec<usize>>,
+) -> Result<(), AllocError> {
+    let mut equal = Vec::new(alloc);
+    let mut before = None;
+    for Row { value, place } in sorted_rows(alloc, scene, key, cites, tied)? {
+        if !is_tied(&before, &value) {
+            finer.push(replace(&mut equal, Vec::new(alloc)))?;
+        }
+        equal.push(place)?;
+        before = Some(value);
+    }
+    finer.push(equal)?;
+    Ok(())
+}
+
+/// Whether a value is that of the cite before, if there is one.
+fn is_tied(before: &Option<Value>, value: &Value) -> bool {
+    match before {
+        Some(before) => *before == *value,
+        None => true,
+    }
+}
+
+/// The cites at these places in the order of a key.
+fn sorted_rows<'s>(
+    alloc: Global,
+    scene: KeyScene<'s>,
+    key: &'s Key<'s>,
+    cites: &[CiteFacts<'_>],
+    places: Vec<usize>,
+) -> Result<Vec<Row>, AllocError> {
+    let mut rows = Vec::new(alloc);
+    for place in places {
+        if let Some(cite) = cites.get(place) {
+            let value = scene.value(alloc, key, *cite)?;
+            let value = Value::of_key(value, key.key.direction);
+            rows.push(Row { value, place })?;
+        }
+    }
+    rows.sort()?;
+    Ok(rows)
+}
+
+/// A cite with the value of a key. Where this is equal, cites are in the order of their places.
 #[derive(PartialEq, Eq, PartialOrd, Ord, Drop)]
 struct Row {
-    values: Vec<Value>,
+    value: Value,
     place: usize,
 }
 

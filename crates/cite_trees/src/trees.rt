@@ -58,7 +58,7 @@ pub fn tree_of(
     }
     builder.end_text()?;
     let Builder { children, .. } = builder;
-    Ok(children)
+    Ok(exact(children))
 }
 
 /// What of a tree is shown, without what its elements stand for.
@@ -204,7 +204,7 @@ impl Builder<'_> {
             ) => {
                 let children = replace(&mut self.children, before);
                 self.children.push(ElemChild::Elem(Elem {
-                    children,
+                    children: exact(children),
                     display,
                     meta,
                 }))?;
@@ -213,6 +213,13 @@ impl Builder<'_> {
         }
         Ok(())
     }
+}
+
+/// Children in a list without room for more, since trees are kept.
+fn exact(children: ElemChildren) -> ElemChildren {
+    let mut children = children;
+    children.0.shrink_to_fit();
+    children
 }
 
 fn tree_display(display: file::Display) -> tree::Display {
