@@ -11,13 +11,16 @@ a C compiler (CC, or cc) with its binutils.
                     toolchain is needed
     --wheel         build the Python package's wheel too, in out/
     --wheel-only    build the wheel of what is in out/, and nothing else
-    --release       build the wheel and the archive of a release (release.py), in out/; with
-                    --after-ci of the programs that `rt ci` built, else of those that `rt run`
-                    proves and builds first
+    --release       build the wheel, the archive of a release (release.py), and with dpkg-deb the
+                    package for Debian (debian.py), in out/; with --after-ci of the programs that
+                    `rt ci` built, else of those that `rt run` proves and builds first
+    --deb           build the package for Debian of what is in out/ and the programs that are built,
+                    and nothing else
     --install FOLDER  put what is in out/ and the programs that are built below a folder, such as
                     /usr/local, as the archive of a release has it, and nothing else
 It tells each step, and during a proof how far that is.
 """
+import importlib
 import json
 import os
 import re
@@ -250,27 +253,38 @@ def build_programs():
             run_and_tell(name, 'rt', 'run', *words, stdin=example, stdout=subprocess.DEVNULL)
 
 
-def releasing():
-    """release.py, which stands beside this file."""
-    sys.path.insert(0, HERE)
-    import release
-    return release
+def beside(name):
+    """A module that stands beside this file: release or debian."""
+    if HERE not in sys.path:
+        sys.path.insert(0, HERE)
+    return importlib.import_module(name)
 
 
-def build_release():
-    """The archive of a release, in out/, of the library that is there and the built programs."""
-    with open(f'{OUT}/{NOTE}', encoding='utf-8') as file:
-        note = json.load(file)
+def build_release(makers):
+    """The archive of a release or the package for Debian, by the modules that make them, in out/,
+    of the library that is there and the built programs."""
     try:
-        name = releasing().make(version(), compiler(), note)
+        with open(f'{OUT}/{NOTE}', encoding='utf-8') as file:
+            note = json.load(file)
+        for maker in makers:
+            name = beside(maker).make(version(), compiler(), note)
+            tell(f'built {os.path.relpath(OUT)}/{name}')
+        beside('release').sum_up(version(), note)
     except OSError as error:
         sys.exit(f'build.py: no release: {error}')
-    tell(f'built {os.path.relpath(OUT)}/{name}')
+
+
+def build_all_of_a_release():
+    """The archive of a release, and the package for Debian where there is dpkg-deb."""
+    if shutil.which('dpkg-deb'):
+        return build_release(['release', 'debian'])
+    tell('left out: the package for Debian: there is no dpkg-deb')
+    build_release(['release'])
 
 
 def install(folder):
     """Puts what is built below a folder."""
-    release = releasing()
+    release = beside('release')
     for name in release.missing_programs():
         tell(f'left out: the program {name}, which is not built (--release builds it)')
     try:
@@ -283,6 +297,8 @@ def install(folder):
 def main(words):
     if words == ['--wheel-only']:
         return build_wheel()
+    if words == ['--deb']:
+        return build_release(['debian'])
     if words[:1] == ['--install'] and len(words) == 2:
         return install(words[1])
     with_release = '--release' in words
@@ -313,7 +329,7 @@ def main(words):
     if with_wheel:
         build_wheel()
     if with_release:
-        build_release()
+        build_all_of_a_release()
 
 
 if __name__ == '__main__':

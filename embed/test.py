@@ -4,11 +4,12 @@ words), and tries it as its users would: from C, Python and Rust, on each docume
 tests/documents/ and examples/; then it runs the tests of the Python package.
 
 It needs the toolchain and a C compiler. What else it would use (c++, cargo, cmake, pkg-config,
-valgrind, pip, venv, pandoc, chromium, pytest, mypy, python3-pandocfilters, python3-jsonschema,
-python3-pybtex, python3-yaml, python3-distributed, python3-markdown, mkdocs,
-citation-style-language-styles and citation-style-language-locales) is left out where it is missing,
-and a line says so. --many N has valgrind watch N calls in four threads, where it is 300 else. The
-last line is 'N passed, M failed', and the exit status is 1 where a test failed."""
+valgrind, dpkg-deb, bash, zsh, fish, mandoc, groff, man, pip, venv, pandoc, chromium, pytest, mypy,
+python3-pandocfilters, python3-jsonschema, python3-pybtex, python3-yaml, python3-distributed,
+python3-markdown, mkdocs, citation-style-language-styles and citation-style-language-locales) is
+left out where it is missing, and a line says so. --many N has valgrind watch N calls in four
+threads, where it is 300 else. The last line is 'N passed, M failed', and the exit status is 1 where
+a test failed."""
 import collections
 import glob
 import json

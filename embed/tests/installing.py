@@ -1,5 +1,5 @@
 """What is built and how it is installed: the library, the Python package, its wheel, the archive of
-a release, and callers in C and Rust."""
+a release, the package for Debian, the program's pages, and callers in C and Rust."""
 import glob
 import json
 import os
@@ -8,6 +8,7 @@ import sys
 import tarfile
 
 import build
+import debian
 import release
 from checks import (EMBED, OUT, ROOT, first_example, has_tool, hold, left_out, printed, ran, read)
 
@@ -22,10 +23,11 @@ def try_building(folder):
     try_about(folder)
     try_callers(folder)
     try_cmake(folder)
+    try_pages()
 
 
 def try_packages(folder):
-    """The Python package, its wheel, and the archive of a release."""
+    """The Python package, its wheel, the archive of a release, and the package for Debian."""
     try_package(folder)
     try_wheel(folder)
     try_release(folder)
@@ -75,6 +77,15 @@ def try_cmake(folder):
         hold(made.returncode == 0, f'cmake {words[0]}: {made.stderr.decode()[-600:]}')
     first, text = first_example()
     hold(ran(f'{folder}/cmake/print', input=first).stdout == text, 'the program that CMake built')
+
+
+def try_pages():
+    """The man page and the completions, which are what the built program says of itself."""
+    if 'gamhilon' in release.missing_programs():
+        left_out.append('the man page and the completions: there is no built gamhilon')
+        return
+    made = ran(sys.executable, f'{EMBED}/man.py', '--check', release.program('gamhilon'))
+    hold(made.returncode == 0, f'man.py --check: {(made.stdout + made.stderr).decode()[-1200:]}')
 
 
 # The Python package
@@ -188,6 +199,23 @@ def try_release(folder):
     made = ran(sys.executable, f'{EMBED}/build.py', '--install', f'{folder}/usr')
     hold(made.returncode == 0, f'build.py --install: {made.stderr.decode()[-600:]}')
     try_programs(f'{folder}/usr', 'that is installed')
+    if has_tool('dpkg-deb', 'the package for Debian'):
+        try_package_for_debian(folder)
+
+
+def try_package_for_debian(folder):
+    """The package for Debian, unpacked where nothing else is. (What it has in detail is held by the
+    tests of the Python package, of programs that stand in for the built ones.)"""
+    place, name = f'{folder}/debian', debian.make(build.version(), build.compiler(), note())
+    for words in (['-x', place], ['-e', f'{place}/DEBIAN']):
+        done = ran('dpkg-deb', words[0], f'{OUT}/{name}', words[1])
+        hold(done.returncode == 0, f'dpkg-deb {words[0]}: {done.stderr.decode()}')
+    done = ran('md5sum', '--check', '--strict', '--quiet', 'DEBIAN/md5sums', cwd=place)
+    hold(done.returncode == 0, f'the checksums of the package for Debian: {done.stderr.decode()}')
+    told = ran('dpkg-deb', '-f', f'{OUT}/{name}', 'Description').stdout.decode()
+    hold(all(str(value or 'unknown') in told for value in note().values()),
+         f'what proved the package for Debian: {told}')
+    try_programs(f'{place}/usr', 'of the package for Debian')
 
 
 def try_programs(place, which):

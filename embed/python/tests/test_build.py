@@ -1,5 +1,6 @@
 """build.py, over a toolchain that stands in for rt and makes an archive of a few lines of C."""
 import contextlib
+import gzip
 import importlib.util
 import os
 import re
@@ -39,10 +40,17 @@ target_link_libraries(shared PRIVATE gamhilon::gamhilon)
 add_executable(static {0})
 target_link_libraries(static PRIVATE gamhilon::static)
 '''
-AGAIN = '''import json, release
+AGAIN = '''import importlib, json, os, sys
+os.umask(0o77)
 with open('out/gamhilon_build.json') as file:
-    release.make('0.2.0', ['cc'], json.load(file))
+    note = json.load(file)
+for name in sys.argv[1:]:
+    importlib.import_module(name).make('0.2.0', ['cc'], note)
 '''
+PAGES = (('man/gamhilon.1', 'share/man/man1/gamhilon.1'),
+         ('completions/gamhilon.bash', 'share/bash-completion/completions/gamhilon'),
+         ('completions/_gamhilon', 'share/zsh/site-functions/_gamhilon'),
+         ('completions/gamhilon.fish', 'share/fish/vendor_completions.d/gamhilon.fish'))
 
 
 @pytest.fixture
@@ -50,9 +58,9 @@ def tree(tmp_path, monkeypatch):
     """A repository of which build.py builds the library, and what makes its rt end after a while,
     with a status."""
     root, kit = tmp_path / 'repository', tmp_path / 'kit'
-    for name in ('build.py', 'release.py', 'gamhilon.h', 'c/about.c', 'c/print.c',
+    for name in ('build.py', 'release.py', 'debian.py', 'gamhilon.h', 'c/about.c', 'c/print.c',
                  'c/cite.c', 'c/gamhilon.pc.in', 'c/gamhilon-config.cmake.in',
-                 'c/gamhilon-config-version.cmake.in'):
+                 'c/gamhilon-config-version.cmake.in', *(name for name, _ in PAGES)):
         (root / 'embed' / name).parent.mkdir(parents=True, exist_ok=True)
         shutil.copy(f'{PROJECT}/../{name}', root / 'embed' / name)
     shutil.copytree(PROJECT, root / 'embed' / 'python',
@@ -91,7 +99,7 @@ def build_of(root, monkeypatch):
     module = importlib.util.module_from_spec(spec)
     spec.loader.exec_module(module)
     monkeypatch.chdir(root)
-    for name in ('gamhilon_wheel', 'release', 'build_of_a_copy'):
+    for name in ('gamhilon_wheel', 'release', 'debian', 'build_of_a_copy'):
         monkeypatch.delitem(sys.modules, name, raising=False)
     monkeypatch.setattr(sys, 'path', list(sys.path))
     return module
@@ -153,7 +161,7 @@ def release(tree, monkeypatch, tmp_path):
 
 def test_a_release_has_checksums_that_tell_what_proved_it(release):
     folder, out = release
-    for place, count in ((folder, 18), (out, 2)):
+    for place, count in ((folder, 22), (out, 3 if shutil.which('dpkg-deb') else 2)):
         about, *sums = (place / 'SHA256SUMS').read_text().splitlines()
         assert re.fullmatch('# gamhilon 0.2.0; commit .*; toolchain kit-1', about)
         assert len(sums) == count
@@ -194,6 +202,14 @@ def test_a_release_has_styles_and_a_locale(release):
     assert locale.get('{http://www.w3.org/XML/1998/namespace}lang') == 'en-US'
 
 
+def test_a_release_has_a_man_page_and_completions(release):
+    folder, _ = release
+    for name, path in PAGES:
+        with open(f'{PROJECT}/../{name}', 'rb') as file:
+            assert (folder / path).read_bytes() == file.read()
+        assert (folder / path).stat().st_mode & 0o777 == 0o644
+
+
 def files_below(folder):
     return {str(path.relative_to(folder)) for path in folder.rglob('*') if not path.is_dir()}
 
@@ -205,7 +221,7 @@ def test_what_is_built_is_installed_as_a_release_has_it(release, tmp_path, capfd
     for _ in range(2):
         subprocess.run(words, cwd=out.parent, check=True)
     told = capfd.readouterr().out.splitlines()[-1]
-    assert told == f'build.py: installed 19 files below {tmp_path / "usr"}'
+    assert told == f'build.py: installed 23 files below {tmp_path / "usr"}'
     texts = {'SHA256SUMS', 'LICENSE', 'LICENSE-MIT', 'LICENSE-APACHE'}
     installed = files_below(tmp_path / 'usr')
     assert installed == files_below(folder) - texts | {
@@ -223,16 +239,140 @@ def test_a_program_that_is_not_built_is_left_out_where_one_installs(release, tmp
     assert 'left out: the program gamhilon, which is not built' in capfd.readouterr().out
     assert sorted(os.listdir(tmp_path / 'usr' / 'bin')) == ['cite_run', 'gamhilon-cite',
                                                             'gamhilon-print']
+    assert not any((tmp_path / 'usr' / path).exists() for _, path in PAGES)
     done = subprocess.run([*words[:-1], '/dev/null'], cwd=out.parent, capture_output=True)
     assert done.returncode == 1 and done.stderr.startswith(b'build.py: not installed: ')
 
 
 def test_one_build_makes_one_release(release):
     _, out = release
-    path, = out.glob('*.tar.gz')
+    makers = {'release': '.tar.gz', 'debian': '.deb'}
+    if not shutil.which('dpkg-deb'):
+        del makers['debian']
+    paths = [path for suffix in makers.values() for path in out.glob(f'*{suffix}')]
+    first = [path.read_bytes() for path in paths]
+    assert len(first) == len(makers)
+    # (files that are made at another time, by another user, with other rights)
+    subprocess.run([sys.executable, '-c', AGAIN, *makers], cwd=out.parent, check=True)
+    assert [path.read_bytes() for path in paths] == first
+
+
+def test_a_release_without_dpkg_deb_has_no_package(tree, monkeypatch, capfd):
+    build = build_of(tree(), monkeypatch)
+    which = shutil.which
+    monkeypatch.setattr(shutil, 'which', lambda name: None if name == 'dpkg-deb' else which(name))
+    build.main(['--release'])
+    told = capfd.readouterr().out
+    assert 'build.py: left out: the package for Debian: there is no dpkg-deb\n' in told
+    assert sorted(name.rpartition('.')[2] for name in os.listdir('embed/out')
+                  if name.startswith('gamhilon-')) == ['gz', 'whl']
+
+
+@pytest.fixture
+def package(release):
+    """The package for Debian, the folder of the release, and that of what was built."""
+    if not shutil.which('dpkg-deb'):
+        pytest.skip('there is no dpkg-deb')
+    folder, out = release
+    path, = out.glob('*.deb')
+    return path, folder, out
+
+
+def dpkg_deb(*words):
+    return subprocess.run(['dpkg-deb', *words], capture_output=True, text=True, check=True).stdout
+
+
+def test_a_package_tells_what_it_is_and_needs(package):
+    path, folder, _ = package
+    assert path.name == 'gamhilon_0.2.0_amd64.deb'
+    fields = dict(re.findall(r'^([A-Z][\w-]+): (.*)$', dpkg_deb('-f', str(path)), re.MULTILINE))
+    assert (fields['Package'], fields['Version'], fields['Architecture']) == ('gamhilon', '0.2.0',
+                                                                              'amd64')
+    # (the programs stand in for those of the toolchain: of the C library)
+    assert re.fullmatch(r'libc6 \(>= 2\.[0-9]+\)', fields['Depends'])
+    assert re.fullmatch(r'.+ <.+@.+>', fields['Maintainer'])
+    assert 500 > int(fields['Installed-Size']) > sum(
+        path.stat().st_size for path in (folder / 'bin').iterdir()) // 1024
+    told = dpkg_deb('-I', str(path))
+    assert 'toolchain kit-1.' in told
+    assert all(f' {part}' in told for part in ('control', 'md5sums', 'triggers'))
+
+
+def test_a_package_has_the_files_of_a_release(package, tmp_path):
+    path, folder, _ = package
+    dpkg_deb('-x', str(path), str(tmp_path / 'root'))
+    dpkg_deb('-e', str(path), str(tmp_path / 'control'))
+    packaged = {name: tmp_path / 'root' / name for name in files_below(tmp_path / 'root')}
+    sums = (tmp_path / 'control' / 'md5sums').read_text().splitlines()
+    links = {'usr/lib/libgamhilon.so'}
+    assert {line.split('  ')[1] for line in sums} == set(packaged) - links
+    subprocess.run(['md5sum', '--check', '--strict', '--quiet', tmp_path / 'control' / 'md5sums'],
+                   cwd=tmp_path / 'root', check=True)
+    released = {f'usr/{name}': folder / name for name in files_below(folder)}
+    for name in ('SHA256SUMS', 'LICENSE', 'LICENSE-MIT', 'LICENSE-APACHE'):
+        del released[f'usr/{name}']
+    page = released.pop('usr/share/man/man1/gamhilon.1')
+    completions = released.pop('usr/share/zsh/site-functions/_gamhilon')
+    released['usr/share/zsh/vendor-completions/_gamhilon'] = completions
+    more = {'usr/share/man/man1/gamhilon.1.gz', 'usr/share/doc/gamhilon/copyright'}
+    assert set(packaged) == set(released) | more
+    for name, path in released.items():
+        assert packaged[name].read_bytes() == path.read_bytes()
+        assert packaged[name].stat().st_mode == path.stat().st_mode
+    zipped = packaged['usr/share/man/man1/gamhilon.1.gz'].read_bytes()
+    assert gzip.decompress(zipped) == page.read_bytes()
+    assert os.readlink(packaged['usr/lib/libgamhilon.so']) == 'libgamhilon.so.0'
+    copyright_text = packaged['usr/share/doc/gamhilon/copyright'].read_text()
+    assert 'Copyright: 2026 The Gamhilon maintainers\n' in copyright_text
+    assert ' Permission is hereby granted, free of charge' in copyright_text
+
+
+def test_all_in_a_package_is_of_root_and_of_one_time(package):
+    path, _, _ = package
+    rows = [row.split(maxsplit=5) for row in dpkg_deb('-c', str(path)).splitlines()]
+    assert {owner for _, owner, *_ in rows} == {'root/root'}
+    assert {(day, time) for _, _, _, day, time, _ in rows} == {('2026-01-01', '00:00')}
+    rights = {name: rights for rights, *_, name in rows}
+    assert rights['./'] == rights['./usr/share/man/man1/'] == 'drwxr-xr-x'
+    assert rights['./usr/bin/gamhilon'] == '-rwxr-xr-x'
+    assert rights['./usr/lib/libgamhilon.so.0'] == '-rw-r--r--'
+
+
+def test_a_package_is_made_anew_of_what_is_built(package):
+    path, _, out = package
     first = path.read_bytes()
-    subprocess.run([sys.executable, '-c', AGAIN], cwd=out.parent, check=True)
+    path.unlink()
+    done = subprocess.run([sys.executable, 'build.py', '--deb'], cwd=out.parent, check=True,
+                          capture_output=True, text=True)
+    assert done.stdout == 'build.py: built out/gamhilon_0.2.0_amd64.deb\n'
     assert path.read_bytes() == first
+    subprocess.run(['sha256sum', '--check', '--strict', '--quiet', 'SHA256SUMS'], cwd=out,
+                   check=True)
+    shutil.rmtree(out.parents[1] / 'crates' / 'gamhilon' / 'out')
+    done = subprocess.run([sys.executable, 'build.py', '--deb'], cwd=out.parent,
+                          capture_output=True, text=True)
+    assert done.returncode == 1 and done.stderr.startswith('build.py: no release: ')
+
+
+def test_what_a_package_needs_is_read_off_its_programs(package, tmp_path):
+    _, _, out = package
+    (tmp_path / 'one.c').write_text('int one(void) { return 1; }\n')
+    (tmp_path / 'main.c').write_text('int one(void);\nint main(void) { return one(); }\n')
+    for words in (['cc', '-shared', '-fPIC', '-Wl,-soname,libone.so.1', '-o', 'libone.so', 'one.c'],
+                  ['cc', '-o', 'main', 'main.c', './libone.so']):
+        subprocess.run(words, cwd=tmp_path, check=True)
+    words = ('import debian, sys; print(debian.dependencies(sys.argv[2:], sys.argv[1]))')
+
+    def needs(own, *paths):
+        return subprocess.run([sys.executable, '-c', words, own, *paths], cwd=out.parent,
+                              capture_output=True, text=True)
+
+    assert needs('libone.so.1', tmp_path / 'main').stdout.startswith('libc6 (>= 2.')
+    done = needs('libtwo.so.1', tmp_path / 'main')
+    assert done.returncode == 1 and 'no package is known to have libone.so.1' in done.stderr
+    # (of what is no program of its own nothing is asked for, as of one that is static)
+    subprocess.run(['cc', '-c', 'one.c'], cwd=tmp_path, check=True)
+    assert needs('libone.so.1', tmp_path / 'one.o').stdout == '\n'
 
 
 def test_words_that_are_none_are_told(tree, monkeypatch):
