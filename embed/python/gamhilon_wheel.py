@@ -24,7 +24,7 @@ OUT = os.path.normpath(f'{HERE}/../out')
 SOURCE = f'{HERE}/src'
 STYLES = f'{ROOT}/examples/styles'
 NAME = 'gamhilon'
-SUFFIXES = ('.py', '.css', '.typed')
+SUFFIXES = ('.py', '.css', '.sty', '.typed')
 LICENSES = ('LICENSE', 'LICENSE-MIT', 'LICENSE-APACHE')
 WHEEL = """Wheel-Version: 1.0
 Generator: gamhilon_wheel

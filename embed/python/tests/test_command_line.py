@@ -189,6 +189,37 @@ def test_output_that_cannot_be_written_is_status_1():
     assert status == 1 and error.count('\n') == 1
 
 
+@pytest.mark.parametrize('module, words', [
+    ('gamhilon', ['--help']), ('gamhilon', ['cite', '--help']), ('gamhilon', ['css']),
+    ('gamhilon.pandoc_filter', ['--help']), ('gamhilon.pandoc_filter', ['--version'])])
+def test_a_reader_that_has_read_enough_sees_no_traceback(module, words):
+    reader, writer = os.pipe()
+    os.close(reader)
+    try:
+        done = subprocess.run([sys.executable, '-m', module, *words], stdout=writer,
+                              stderr=subprocess.PIPE, env={**os.environ, 'PYTHONPATH': SOURCE})
+    finally:
+        os.close(writer)
+    assert done.returncode in (0, 1) and done.stderr.count(b'\n') <= 1
+    assert b'Traceback' not in done.stderr
+
+
+@pytest.mark.parametrize('command', ['cite', 'bibliography', 'markdown', 'latex', 'render', 'check',
+                                     'entries', 'styles', 'sample', 'diff', 'test', 'css'])
+def test_the_help_of_each_command_begins_with_what_it_is(command):
+    status, out, error = run(command, '--help')
+    assert (status, error) == (0, '') and out.startswith(f'usage: gamhilon {command} ')
+    described = out.partition('\n\n')[2].split('\n\n')[0]
+    assert described[:1].isupper() and described.endswith('.')
+    assert command in run('--help')[1]
+
+
+def test_the_filter_tells_what_it_is():
+    done = subprocess.run([sys.executable, '-m', 'gamhilon.pandoc_filter', '--help'],
+                          capture_output=True, env={**os.environ, 'PYTHONPATH': SOURCE})
+    assert done.returncode == 0 and b'bibliography  ' in done.stdout and done.stderr == b''
+
+
 def test_closed_streams_are_status_1(tmp_path):
     environment = {**os.environ, 'PYTHONPATH': SOURCE}
     for words in ('styles >&-', 'render - <&-', 'styles >&- 2>&-'):

@@ -266,3 +266,23 @@ def test_what_the_command_refuses(more, status, said, made_up_style, tmp_path, m
     (tmp_path / 'latin.md').write_bytes(b'\xe4')
     told = run(['markdown', '--bibliography', 'refs.json', *more], capsys)
     assert told[:2] == (status, '') and said in told[2]
+
+
+def test_a_page_written_anew_is_as_if_all_were(made_up_style):
+    pages = {'one': 'A [@doe99].\n\nB @roe00, c[^n].\n\n[^n]: In [@doe01].\n',
+             'two': 'D [@roe00].\n'}
+    edited = 'New [@doe99], and [@nobody].\n\nMore\n\n@roe00 c[^n].\n\n[^n]: As in [@doe01].\n'
+    for style in ('author-date', 'notes'):
+        def site_of(texts):
+            site = markdown_pages.Site(style, REFERENCES)
+            for name, text in texts.items():
+                site.add(name, text)
+            site.write()
+            return site
+        site, fresh = site_of(pages), site_of({**pages, 'one': edited})
+        assert site.rewrite('one', edited)
+        assert [site.page(name) for name in pages] == [fresh.page(name) for name in pages]
+        for other in ('A [@doe99].\n', edited.replace('@doe99', '@roe00'), edited + '\n[@doe99]\n'):
+            before = [site.page(name) for name in pages]
+            assert not site.rewrite('one', other)
+            assert [site.page(name) for name in pages] == before

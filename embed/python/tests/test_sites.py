@@ -144,3 +144,32 @@ def test_what_mkdocs_refuses(built, caplog):
         with pytest.raises(Abort):
             built({'index.md': '# A\n'}, **options)
         assert said in caplog.messages[-1]
+
+
+def test_a_page_that_is_edited_is_written_alone(built, place, monkeypatch):
+    calls = []
+    real = MadeUpStyle.gamhilon_cite
+    monkeypatch.setattr(MadeUpStyle, 'gamhilon_cite',
+                        lambda self, *given: calls.append(1) or real(self, *given))
+    built(SITE, list_page='works.md')
+    edited = {**SITE, 'sub/two.md': '# Three\n\nNew words [@doe01]\n'}
+    pages = built(edited, list_page='works.md')
+    assert len(calls) == 1
+    assert 'New words (<a href="../../works/#ref-doe01">Doe, More</a>)' in pages['sub/two.md']
+    pages = built({**edited, 'sub/two.md': '# Three\n\nNew words [@roe00]\n'}, list_page='works.md')
+    assert len(calls) == 2 and 'A Reply</a>)' in pages['sub/two.md']
+    assert re.findall('id="ref-(.*?)"', pages['works.md']) == ['doe99', 'roe00']
+    (place / 'refs.json').write_text(json.dumps([{**REFERENCES[1], 'title': 'Another Reply'}]))
+    pages = built({**edited, 'sub/two.md': '# Three\n\nNew words [@roe00]\n'}, list_page='works.md')
+    assert len(calls) == 3 and 'Another Reply</a>)' in pages['sub/two.md']
+    built(SITE)
+    assert len(calls) == 4
+
+
+def test_what_mkdocs_says_of_a_page_it_says_again(built, caplog):
+    for text in ('# A\n\n[@nobody]\n', '# A\n\nB\n\n[@nobody]\n'):
+        caplog.clear()
+        with caplog.at_level(logging.WARNING):
+            built({'index.md': text})
+        line = text[:text.index('[')].count('\n') + 1
+        assert f'index.md:{line}:1: no entry has the key nobody' in caplog.messages

@@ -51,7 +51,7 @@ def test_it_has_what_a_user_needs(wheel):
         info = next(name.split('/')[0] for name in names if '.dist-info/' in name)
         for name in ('__init__.py', '__main__.py', 'py.typed', 'libgamhilon.so',
                      'gamhilon_build.json',
-                     'csl/__init__.py', 'gamhilon.css'):
+                     'csl/__init__.py', 'gamhilon.css', 'tex/gamhilon.sty'):
             assert f'gamhilon/{name}' in names
         for name in ('author-date', 'labels', 'notes', 'numeric'):
             with open(f'{ROOT}/examples/styles/{name}.csl', 'rb') as file:

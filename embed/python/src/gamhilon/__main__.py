@@ -14,6 +14,7 @@ from ._check_command import check_command, refusal
 from ._cite_command import Asked, bibliography_command, cite_command
 from ._console import (INPUT_OR_OUTPUT_FAILED, NOT_OF_ITS_FORM, json_text, name_of, progress, read,
                        say, write)
+from ._latex_command import add_latex, latex_command
 from ._limits import DEFAULT_DEPTH, DEFAULT_ELEMENTS, UNLIMITED
 from ._markdown_command import add_markdown, markdown_command
 from ._render_folder import Job, page_of, render_folder
@@ -21,10 +22,23 @@ from ._style_commands import COMMANDS, add_style_commands, run_style_command
 from .errors import LibraryMissing, Refused
 
 BAD_COMMAND_LINE, NO_LIBRARY = 64, 69
-ENDINGS = """exit status: 0 done; 1 reading or writing failed; 2 document refused, or a file that
-isn't of its form; 3 its macros call each other in a ring; 4 its citation numbers don't fit; 5 out
-of memory; 7 a layout nests deeper than --depth; 8 a layout has more elements than --elements; 11 texts differ (of diff and test); 64 not a command line; 69 the
-library is missing, or what reads files of a form; 130 ended by Ctrl-C"""
+ENDINGS = """\
+examples:
+  gamhilon bibliography --style apa library.bib         what a file of references lists
+  gamhilon markdown page.md --bibliography library.bib  a page with its citations written
+  gamhilon latex paper                                  paper.bbl, of paper.aux
+  gamhilon styles --all                                 the names of styles
+  gamhilon COMMAND --help                               what a command takes
+
+exit status: 0 done; 1 reading or writing failed; 2 document refused, or a file
+that isn't of its form; 3 its macros call each other in a ring; 4 its citation
+numbers don't fit; 5 out of memory; 7 a layout nests deeper than --depth; 8 a
+layout has more elements than --elements; 11 texts differ (of diff and test); 64
+not a command line; 69 the library is missing, or what reads files of a form;
+130 ended by Ctrl-C"""
+CITATIONS = """\
+example, with [[{"id": "doe99", "locator": "4"}]] in citations.json:
+  gamhilon %s --style apa library.bib citations.json"""
 
 
 class Parser(argparse.ArgumentParser):
@@ -32,17 +46,44 @@ class Parser(argparse.ArgumentParser):
 
     def error(self, message: str) -> NoReturn:
         self.print_usage(sys.stderr)
-        self.exit(BAD_COMMAND_LINE, f'{self.prog}: {message}\n')
+        self.exit(BAD_COMMAND_LINE, f'{self.prog}: {message} (--help tells more)\n')
+
+    def _print_message(self, message: str, file: Any = None) -> None:
+        """Prints help, of which a reader such as `head` may take a part."""
+        try:
+            super()._print_message(message, file)
+            if file is not None:
+                file.flush()
+        except BrokenPipeError:
+            _console.close_output()
+
+
+class Commands:
+    """Adds commands, whose own help begins with what they are."""
+
+    def __init__(self, made: argparse.ArgumentParser) -> None:
+        self._commands = made.add_subparsers(dest='command', metavar='COMMAND')
+
+    def add_parser(self, name: str, *, help: str, epilog: Optional[str] = None) -> Any:
+        """Adds a command. `help` is what it is, and `epilog` stands behind its options, line by
+        line."""
+        return self._commands.add_parser(
+            name, help=help, description=f'{help[:1].upper()}{help[1:]}.', epilog=epilog,
+            formatter_class=argparse.RawDescriptionHelpFormatter if epilog and '\n  ' in epilog
+            else argparse.HelpFormatter)
 
 
 def parser() -> argparse.ArgumentParser:
     """What the command line may say."""
-    made = Parser(prog='gamhilon', description='Citations and bibliographies.', epilog=ENDINGS)
+    made = Parser(prog='gamhilon', epilog=ENDINGS,
+                  description='Citations and bibliographies in any style of CSL.',
+                  formatter_class=argparse.RawDescriptionHelpFormatter)
     made.add_argument('--version', action='store_true',
                       help='the version, and what the library was built of')
-    commands = made.add_subparsers(dest='command', metavar='COMMAND')
+    commands = Commands(made)
     _add_cite(commands)
     add_markdown(commands)
+    add_latex(commands)
     _add_render(commands)
     checked = commands.add_parser('check', help='what is wrong in styles, locales, documents and '
                                                 'references, or what they hold')
@@ -53,7 +94,8 @@ def parser() -> argparse.ArgumentParser:
     _add_entries(commands)
     named = commands.add_parser('styles', help='the names of the styles that come with this '
                                                'package, or the file of one')
-    named.add_argument('name', nargs='?', help='a name of a style')
+    named.add_argument('name', nargs='?', metavar='STYLE',
+                       help='a style of this package, whose file is written')
     named.add_argument('--all', action='store_true', help="Debian's published styles too")
     add_style_commands(commands)
     commands.add_parser('css', help='the style sheet of reference lists in HTML')
@@ -64,13 +106,13 @@ def _add_cite(commands: Any) -> None:
     for name, what, count in (('cite', 'citations in a style', None),
                               ('bibliography', 'the items that are cited, or all where there are '
                                                'no citations', '?')):
-        made = commands.add_parser(name, help=what)
+        made = commands.add_parser(name, help=what, epilog=CITATIONS % name)
         made.add_argument('references', metavar='REFERENCES',
                           help="CSL-JSON, BibLaTeX, BibTeX or hayagriva's YAML; - for standard "
                                'input')
         made.add_argument('citations', nargs=count, metavar='CITATIONS',
-                          help='a JSON list of citations, which are lists of cites; - for standard '
-                               'input')
+                          help='a JSON list of citations, which are lists of cites with an id; - '
+                               'for standard input')
         made.add_argument('--style', required=True,
                           help='a style: its name (gamhilon styles --all), or a file; - for '
                                'standard input')
@@ -108,8 +150,8 @@ def _add_render(commands: Any) -> None:
 
 
 def _add_entries(commands: Any) -> None:
-    entries = commands.add_parser('entries',
-                                  help="references as CSL-JSON; what isn't kept on standard error")
+    entries = commands.add_parser('entries', help="references as CSL-JSON, and on standard error "
+                                                  "what of them isn't kept")
     entries.add_argument('files', nargs='+', metavar='FILE',
                          help="CSL-JSON, BibLaTeX, BibTeX or hayagriva's YAML; - for standard "
                               'input')
@@ -154,6 +196,8 @@ def main(arguments: Optional[List[str]] = None) -> int:
         made.error('--standalone makes a page of the form html')
     if 'standalone' in words:
         words.to = words.to or ('html' if words.standalone else 'text')
+    if words.command == 'latex' and not (words.paper or words.where or words.install):
+        made.error('latex: tell a PAPER, --where or --install')
     if _inputs(words) > 1:
         made.error('- stands for several files, and standard input is read once')
     return _console.interruptible(partial(run, words))
@@ -184,6 +228,8 @@ def run(words: argparse.Namespace) -> int:
             return command(_asked(words))
         elif words.command == 'markdown':
             return markdown_command(words)
+        elif words.command == 'latex':
+            return latex_command(words)
         elif words.command == 'render':
             job = Job(words.to, words.standalone, Limits(words.depth, words.elements))
             return render_command(words.document, words.output, job, words.jobs)

@@ -26,6 +26,7 @@ ENGLISH: Mapping[str, str] = {word: kind for kind, words in _ENGLISH.items()
 
 _CSL = '{http://purl.org/net/xbiblio/csl}'
 _BRACKETS = {'(': ')', '[': ']', '{': '}'}
+_MOST_KEPT = 10000
 _DASHES = '-\u2013\u2014'
 _ROMAN = re.compile('(?=.)m*(cm|cd|d?c{0,3})(xc|xl|l?x{0,3})(ix|iv|v?i{0,3})$', re.IGNORECASE)
 
@@ -37,13 +38,23 @@ class Locator(NamedTuple):
     text: str
 
 
+class LocatorWords(Dict[str, str]):
+    """The words of locators in a language, each with its kind; and suffixes that were split by
+    them, which come again and again on the pages of a site."""
+
+    def __init__(self, words: Mapping[str, str]) -> None:
+        super().__init__(words)
+        self.longest = max(map(len, words), default=0)
+        self.split: Dict[str, Tuple[Optional[Locator], str]] = {}
+
+
 def words_of(language: Optional[str], locales: Optional[Locales] = None) -> Mapping[str, str]:
     """The words of locators in a language, each with its kind: those of its locale files, and the
     English ones that these have not."""
     found = dict(ENGLISH)
     for file in reversed(files_for(language or 'en-US', locales)):
         found.update(_words_in(file.text))
-    return found
+    return LocatorWords(found)
 
 
 @lru_cache(maxsize=8)
@@ -66,7 +77,13 @@ def _words_in(text: str) -> Dict[str, str]:
 def split(suffix: str, words: Mapping[str, str] = ENGLISH) -> Tuple[Optional[Locator], str]:
     """The locator at the beginning of a suffix, and the rest, as pandoc reads them. Numbers without
     a word are pages."""
-    return _Suffix(suffix, words).split()
+    if not isinstance(words, LocatorWords):
+        return _Suffix(suffix, words).split()
+    if suffix not in words.split:
+        if len(words.split) >= _MOST_KEPT:
+            words.split.clear()
+        words.split[suffix] = _Suffix(suffix, words).split()
+    return words.split[suffix]
 
 
 class _Suffix:
@@ -75,7 +92,8 @@ class _Suffix:
     def __init__(self, suffix: str, words: Mapping[str, str]) -> None:
         self.tokens = _tokens(suffix)
         self.words = words
-        self.longest = max(map(len, words), default=0)
+        self.longest = words.longest if isinstance(words, LocatorWords) \
+            else max(map(len, words), default=0)
 
     def split(self) -> Tuple[Optional[Locator], str]:
         at = self._past_space(self._past(0, ','))

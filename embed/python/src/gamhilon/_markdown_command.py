@@ -7,6 +7,7 @@ from typing import Any, Dict, Iterator, List, Optional, Tuple
 
 from . import _console, csl, references
 from ._console import INPUT_OR_OUTPUT_FAILED, NOT_OF_ITS_FORM, name_of, say
+from ._references_of_files import items_of_files
 from .errors import GamhilonError, LibraryMissing, Refused
 from .markdown_pages import cite_page
 
@@ -63,19 +64,14 @@ def markdown_command(words: argparse.Namespace) -> int:
 
 def _items(paths: List[str], locale: Optional[str]) -> List[Dict[str, Any]]:
     """The references of files. The first of a key counts."""
-    found: Dict[str, Dict[str, Any]] = {}
-    for path in paths:
-        try:
-            told = references.load(path, lang=locale or 'en-US')
-        except (references.ReferencesError, OSError) as error:
-            message = str(error) if isinstance(error, references.ReferencesError) else \
-                f'{name_of(path)}: {_console.reason_and_status(error)[0]}'
-            raise _Failed(message, _console.reason_and_status(error)[1]) from error
-        for problem in told.problems:
-            say(f'{name_of(path)}: warning: {problem}')
-        for item in told.items:
-            found.setdefault(str(item['id']), item)
-    return list(found.values())
+    try:
+        return items_of_files(paths, locale,
+                              lambda name, problem: say(f'{name}: warning: {problem}'))
+    except references.ReferencesError as error:
+        raise _Failed(str(error), _console.reason_and_status(error)[1]) from error
+    except OSError as error:
+        reason, status = _console.reason_and_status(error)
+        raise _Failed(f'{name_of(error.filename or "the references")}: {reason}', status) from error
 
 
 def _targets(pages: List[str], output: Optional[str]) -> Iterator[Tuple[str, Optional[str]]]:

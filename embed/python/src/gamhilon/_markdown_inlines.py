@@ -13,6 +13,13 @@ SPACES = re.compile(r'[ \t\u00a0]*(?:\n(?!\s*\n)[ \t]*(?:>[ \t]?)*)?[ \t\u00a0]*
 WORD = re.compile(r'(?:[^\W_]|\.(?!\.))+')
 """A word, as pandoc reads one: behind it no `@` begins a citation."""
 
+_BEGINS_ADDRESS = r'(?:https?://|mailto:|www\.)'
+_MARK_OF_PAIRS = re.compile(rf'[\[\]\\`<${{]|(?<![^\W_]){_BEGINS_ADDRESS}')
+
+PLAIN = re.compile(rf'(?:(?!{_BEGINS_ADDRESS})[^\W_](?:[^\W_]|\.(?!\.))*'
+                   r'|[^\w\\`<{$!\[^*"\'.@])+')
+"""Words, and what stands between them, in which nothing else begins."""
+
 _TAG = re.compile(
     r'<!--.*?-->|<\?.*?\?>|<![A-Z][^>]*>|<!\[CDATA\[.*?\]\]>'
     r'|</[A-Za-z][\w-]*\s*>'
@@ -21,7 +28,7 @@ _TAG = re.compile(
 _AUTOLINK = re.compile(r'<[A-Za-z][A-Za-z0-9+.-]{1,31}:[^\s<>]*>'
                        r'|<[\w.!#$%&\'*+/=?^`{|}~-]+@[\w.-]+>')
 _RAW = re.compile(r'<(pre|script|style|textarea|code)\b.*?</\1\s*>', re.DOTALL | re.IGNORECASE)
-_ADDRESS = re.compile(r'(?:https?://|mailto:|www\.)[^\s<>\[\]]*[^\s<>\[\].,;:!?\'")]')
+_ADDRESS = re.compile(_BEGINS_ADDRESS + r'[^\s<>\[\]]*[^\s<>\[\].,;:!?\'")]')
 _TEMPLATE = re.compile(r'\{\{.*?\}\}|\{%.*?%\}|\{#.*?#\}', re.DOTALL)
 _DISPLAYED = re.compile(r'\$\$.+?\$\$', re.DOTALL)
 _MATH = re.compile(r'\$(?=[^\s$])(?:\\.|[^\\$])*?(?<=[^\s\\])\$(?!\d)', re.DOTALL)
@@ -94,8 +101,10 @@ class InlineReader:
         """The brackets of the text: where each one that opens closes."""
         found: Dict[int, int] = {}
         opened: List[int] = []
-        at, end = 0, len(self.text)
-        while at < end:
+        end = len(self.text)
+        mark = _MARK_OF_PAIRS.search(self.text)
+        while mark is not None:
+            at = mark.start()
             letter = self.text[at]
             if letter == '[':
                 opened.append(at)
@@ -106,6 +115,7 @@ class InlineReader:
             else:
                 opaque = self.end_of_opaque(at, end) if letter in '<${hmw' else None
                 at = opaque or at + 1
+            mark = _MARK_OF_PAIRS.search(self.text, at)
         return found
 
     def _bracketed(self, at: int, end: int) -> int:

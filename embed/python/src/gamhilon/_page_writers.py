@@ -51,6 +51,8 @@ class HtmlInMarkdown(PageWriter):
 
 def in_markdown(text: str) -> str:
     """HTML with numbers in place of the letters that Markdown reads as its own, but for tags."""
+    if '<' not in text:
+        return _SPECIAL.sub(_number, text)
     return ''.join(part if at % 2 else _SPECIAL.sub(_number, part)
                    for at, part in enumerate(_TAG.split(text)))
 

@@ -61,7 +61,12 @@ def parts_of(tree: Tree) -> List[Part]:
             if not is_of_cite:
                 _add(found, _place(marked, entries), piece)
             continue
-        for place, run in enumerate(_MARK.split(piece.node['text'])):
+        text = piece.node['text']
+        if text.isascii():
+            if text:
+                _add(found, _place(marked, entries), piece)
+            continue
+        for place, run in enumerate(_MARK.split(text)):
             if place % 2 == 0:
                 if run:
                     _add(found, _place(marked, entries),

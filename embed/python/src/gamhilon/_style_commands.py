@@ -15,16 +15,17 @@ COMMANDS = ('sample', 'diff', 'test')
 def add_style_commands(commands: Any) -> None:
     """Adds the commands to a command line."""
     style = 'a style: its name, or a file; - for standard input'
-    sample = commands.add_parser('sample', help='a page of a style, by made-up works')
+    sample = commands.add_parser('sample', help='what a style writes of made-up works')
     sample.add_argument('files', nargs=1, metavar='STYLE', help=style)
     sample.add_argument('--to', choices=SAMPLE_FORMS, default='text',
                         help='the form of what is written (text)')
-    diff = commands.add_parser('diff', help='which texts of that page differ between two styles')
+    diff = commands.add_parser('diff', help='what two styles write otherwise of made-up works')
     diff.add_argument('files', nargs=2, metavar='STYLE', help=style)
     for command in (sample, diff):
         command.add_argument('--locale', metavar='TAG',
                              help="the language, in place of the style's")
-    test = commands.add_parser('test', help='fixtures in the form of the CSL processor suite')
+    test = commands.add_parser('test', help='whether styles write what fixtures want, in the form '
+                                            'of the CSL processor suite')
     test.add_argument('files', nargs='+', metavar='FILE',
                       help='a fixture, or a folder of fixtures; - for standard input')
     test.add_argument('--style', help="a style in the place of the fixtures' own")

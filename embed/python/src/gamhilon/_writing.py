@@ -16,6 +16,7 @@ _SAFE_IN_URL = _SAFE + '%?#[]'
 _FORMATS = {'font_weight': ('bold',), 'font_style': ('italic',), 'font_variant': ('small-caps',),
             'text_decoration': ('underline',), 'vertical_align': ('sup', 'sub')}
 _CONTROL = re.compile('[\x00-\x1f\x7f-\x9f\u2028\u2029]')
+_BREAKS = re.compile('[\t\n\v\f\r\x85\u2028\u2029]+')
 _BLANK = re.compile(r'[\s\x00-\x1f\x7f-\x9f]')
 _RESOLVER = re.compile(r'(https?://(dx\.|www\.)?doi\.org/)', re.IGNORECASE)
 _OUTSIDE_ID = re.compile(r'[^A-Za-z0-9.:_-]|_(?![A-Za-z0-9.:-])')
@@ -36,7 +37,9 @@ class Piece(NamedTuple):
 def single_spaced(text: str) -> str:
     """The text with a space for each run of line feeds, tabs and the like; no control characters
     stay."""
-    return _CONTROL.sub('', re.sub('[\t\n\v\f\r\x85\u2028\u2029]+', ' ', text))
+    if text.isprintable():
+        return text
+    return _CONTROL.sub('', _BREAKS.sub(' ', text))
 
 
 def safe_url(url: str) -> Optional[str]:
@@ -75,9 +78,8 @@ def anchor(key: str) -> str:
 def formats(node: Node) -> List[str]:
     """What the text of a node has of `bold`, `italic`, `small-caps`, `underline`, and `sup` or
     `sub`, where it shows something."""
-    if not single_spaced(node['text']).strip():
-        return []
-    return [node[key] for key, names in _FORMATS.items() if node.get(key) in names]
+    found = [node[key] for key, names in _FORMATS.items() if node.get(key) in names]
+    return found if found and single_spaced(node['text']).strip() else []
 
 
 def pieces(tree: Union[Node, Tree], keys: Sequence[str] = ()) -> List[Piece]:

@@ -14,7 +14,7 @@ from dataclasses import dataclass, replace
 from typing import Iterator, List, Mapping, NamedTuple, Optional, Sequence, Tuple, Union, overload
 
 from . import _locators
-from ._markdown_inlines import MARKS, SPACES, WORD, InlineReader
+from ._markdown_inlines import MARKS, PLAIN, SPACES, WORD, InlineReader
 from .csl.cites import Cite
 from .csl.locales import Locales
 from .errors import GamhilonError
@@ -166,6 +166,11 @@ class CitationReader(InlineReader):
         """The citations and the marks of notes between two places of the text."""
         at, last_word = start, -1
         while at < end:
+            plain = PLAIN.match(self.text, at, end)
+            if plain is not None:
+                at = plain.end()
+                last_word = self._last_word(at)
+                continue
             found = None
             if self.text[at] == '[' and not self.text.startswith('[^', at):
                 found = self.in_brackets(at, end)
@@ -179,7 +184,11 @@ class CitationReader(InlineReader):
             if mark is not None:
                 yield mark
             at = self._past(at, end)
-            last_word = at if self.text[at - 1].isalnum() or self.text[at - 1] == '.' else -1
+            last_word = self._last_word(at)
+
+    def _last_word(self, at: int) -> int:
+        """A place behind a word, where no `@` begins a citation; -1 where no word ends there."""
+        return at if self.text[at - 1].isalnum() or self.text[at - 1] == '.' else -1
 
     def _note_mark(self, at: int, end: int) -> Optional[NoteMark]:
         """The mark of a note, or a note in the line, that begins at a place."""

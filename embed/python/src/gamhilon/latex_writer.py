@@ -19,7 +19,14 @@ _ESCAPES = {
     '%': r'\%', '_': r'\_', '^': r'\textasciicircum{}', '~': r'\textasciitilde{}',
     '<': r'\textless{}', '>': r'\textgreater{}', '|': r'\textbar{}', '"': '"{}',
     '`': r'\textasciigrave{}', '[': '{[}', ']': '{]}', '\u00a0': '~',
+    # (letters that LaTeX has no glyphs for, unless its engine is one of Unicode)
+    '\u2002': r'\enspace{}', '\u2003': r'\quad{}', '\u2009': r'\,', '\u200a': r'\,',
+    '\u200b': r'\hspace{0pt}', '\u202f': r'\,', '\u2032': r'\ensuremath{\prime}',
+    '\u2033': r'\ensuremath{\prime\prime}', '\u2060': '', '\u2212': r'\ensuremath{-}',
+    '\ufeff': '',
 }
+_ADDRESS = re.compile(r'(?:https?://|10\.\d)\S+$', re.IGNORECASE)
+_BREAKS = re.compile(r'([/.?=&:-]+|\\_)(?=[^/.?=&:{}-])')
 _LIGATURES = re.compile(r"(?<=([-',]))(?=\1)")
 
 
@@ -91,6 +98,8 @@ def _text(node: Node) -> str:
     for name in reversed(formats(node)):
         text = f'{_COMMANDS[name]}{{{text}}}'
     url = safe_url(node['url']) if 'url' in node else None
+    if url and _ADDRESS.match(node['text']):
+        text = _BREAKS.sub(r'\1\\allowbreak{}', text)
     return rf'\href{{{_address(url)}}}{{{text}}}' if url else text
 
 

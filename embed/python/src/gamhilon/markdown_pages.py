@@ -27,7 +27,7 @@ from ._page_cites import (CitationOfPage, CitationWriter, Written, capitalized, 
                           text_of_runs, unknown, without_full_stop)
 from ._page_writers import HtmlInMarkdown, PageWriter, heading
 from ._writing import anchor
-from .answer import Bibliography
+from .answer import Bibliography, Tree
 from .citation_text import CitationReader, NoteMark, TextCitation, labels_in
 
 __all__ = ['CitedPage', 'PageWarning', 'Site', 'cite_page']
@@ -73,7 +73,9 @@ class _Edit(NamedTuple):
 @dataclass
 class _Page:
     """A page, its blocks and its citations, in the order in which they are read. `own_notes` has
-    the numbers of the notes that it defines itself, each with the place of that."""
+    the numbers of the notes that it defines itself, each with the place of that; `trees` what the
+    style writes of each citation that it is asked for, and `said` what is odd in one of these, by
+    its place among them."""
 
     name: str
     text: str
@@ -85,7 +87,15 @@ class _Page:
     nested: List[CitationOfPage] = field(default_factory=list)
     warnings: List[PageWarning] = field(default_factory=list)
     edits: List[_Edit] = field(default_factory=list)
+    trees: List[Tuple[Tree, Optional[Tree]]] = field(default_factory=list)
+    said: List[Tuple[int, str]] = field(default_factory=list)
+    notes_after: int = 0
     written: Dict[int, Written] = field(default_factory=dict)
+
+    @property
+    def asked(self) -> List[CitationOfPage]:
+        """The citations that the style is asked for."""
+        return [citation for citation in self.citations if citation.cited]
 
     def warn(self, at: Optional[int], message: str) -> None:
         line = None if at is None else self.text.count('\n', 0, at) + 1
@@ -133,14 +143,33 @@ class Site:
         self.warnings: List[PageWarning] = []
         self.bibliography: Optional[Bibliography] = None
         self._notes = 0
+        self._addresses: Dict[str, Dict[str, str]] = {}
 
     def add(self, name: str, text: str) -> None:
         """Adds a page."""
+        self.pages[name] = self._read(name, text)
+
+    def _read(self, name: str, text: str) -> _Page:
         has_crlf = '\r\n' in text
         text = text.replace('\r\n', '\n')
         page = _Page(name, text, blocks_of(text), has_crlf, self._notes)
-        self.pages[name] = page
         _Collector(self, page).collect()
+        page.notes_after = self._notes
+        return page
+
+    def rewrite(self, name: str, text: str) -> bool:
+        """Writes a page anew whose text has changed since all were written. Gives False, and leaves
+        all as it is, where its citations have changed too, so that others may be others."""
+        before, notes = self.pages[name], self._notes
+        self._notes = before.notes_before
+        page = self._read(name, text)
+        self._notes = notes
+        if page.notes_after != before.notes_after or not _asks_alike(before, page):
+            return False
+        page.trees, page.said = before.trees, before.said
+        self.pages[name] = page
+        self._put(page)
+        return True
 
     def next_note(self) -> int:
         """The number of the next note."""
@@ -149,24 +178,31 @@ class Site:
 
     def write(self, nocite: Iterable[str] = ()) -> None:
         """Writes the citations of all pages."""
-        asked = [(page, citation) for page in self.pages.values() for citation in page.citations
-                 if citation.cited]
+        asked = [(page, citation) for page in self.pages.values() for citation in page.asked]
         answer = self.style.answer([citation for _, citation in asked], self._nocite(nocite))
         self.bibliography = answer.bibliography
-        targets = {name: self._targets(name) for name in self.pages}
-        writers = {name: CitationWriter(self.writer, targets[name]) for name in self.pages}
-        trees = list(zip(asked, answer.trees, answer.with_authors))
+        self._addresses = {}
+        for (page, _), tree, whole in zip(asked, answer.trees, answer.with_authors):
+            page.trees.append((tree, whole))
+        self._warn(asked, answer.warnings)
+        for page in self.pages.values():
+            self._put(page)
+
+    def _put(self, page: _Page) -> None:
+        """Puts into a page what is written of its citations, and its list."""
+        writer = CitationWriter(self.writer, self._targets(page.name))
+        asked, nested = page.asked, {id(citation) for citation in page.nested}
         # (those in the words of another one follow it)
-        for (page, citation), tree, whole in reversed(trees):
-            writer = writers[page.name]
+        for citation, (tree, whole) in reversed(list(zip(asked, page.trees))):
             written = writer.written(citation, tree, whole)
             page.written[id(citation)] = written
-            writer.texts[id(citation)] = _in_line(writer, citation, written, True)
+            if id(citation) in nested:
+                writer.texts[id(citation)] = _in_line(writer, citation, written, True)
             for lost in written.lost:
                 page.warn(citation.start, lost)
-        for page in self.pages.values():
-            _Placer(self, page, writers[page.name]).place()
-        self._warn(asked, answer.warnings)
+        for place, message in page.said:
+            page.warn(asked[place].start, message)
+        _Placer(self, page, writer).place()
 
     def page(self, name: str) -> CitedPage:
         """A page that is written."""
@@ -194,7 +230,10 @@ class Site:
         if not self.links or self.bibliography is None:
             return {}
         address = '' if self.list_page in (None, page) else self.address(page)
-        return {item.key: f'{address}#{anchor(item.key)}' for item in self.bibliography.items}
+        if address not in self._addresses:
+            self._addresses[address] = {item.key: f'{address}#{anchor(item.key)}'
+                                        for item in self.bibliography.items}
+        return self._addresses[address]
 
     def _nocite(self, keys: Iterable[str]) -> List[str]:
         asked = list(dict.fromkeys(key.lstrip('@') for key in keys))
@@ -219,7 +258,16 @@ class Site:
             is_whole = not citation.names_author and not any(
                 cited.cite.suppress_author for cited in citation.cited)
             if is_whole:
-                page.warn(citation.start, warned.message)
+                first = next(place for place, (other, _) in enumerate(asked) if other is page)
+                page.said.append((warned.citation - first, warned.message))
+
+
+def _asks_alike(one: _Page, other: _Page) -> bool:
+    """Whether two pages ask the style for the same citations, in the same order."""
+    asked, others = one.asked, other.asked
+    return len(asked) == len(others) and all(
+        (before.cites(), before.names_author) == (after.cites(), after.names_author)
+        for before, after in zip(asked, others))
 
 
 class _Collector:

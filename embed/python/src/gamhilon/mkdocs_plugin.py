@@ -13,12 +13,15 @@ the whole site; without it each page has a list of what is cited on it.
 """
 from __future__ import annotations
 
+import gc
 import importlib
 import logging
 import os
-from typing import Any, Dict, List, Optional
+from typing import Any, Dict, List, NamedTuple, Optional, Tuple
 
 from . import csl
+from .csl.locales import files_for
+from .csl.style import load
 from .errors import GamhilonError
 from .html_writer import style_sheet
 from .markdown_pages import Site
@@ -28,12 +31,27 @@ __all__ = ['CitationPlugin']
 
 STYLE_SHEET = 'css/gamhilon.css'
 
+Seen = Dict[str, Tuple[int, int]]
+"""Files, each with its time and its size."""
+
 logger = logging.getLogger('mkdocs.plugins.gamhilon')
 
 BasePlugin: Any = importlib.import_module('mkdocs.plugins').BasePlugin
 config_options: Any = importlib.import_module('mkdocs.config.config_options')
 PluginError: Any = importlib.import_module('mkdocs.exceptions').PluginError
 get_relative_url: Any = importlib.import_module('mkdocs.utils').get_relative_url
+
+
+class _Kept(NamedTuple):
+    """A site as it was written, of what, and of which files of pages."""
+
+    made_of: Any
+    site: Site
+    seen: Seen
+
+
+_kept: Dict[str, _Kept] = {}
+# (by the path of mkdocs.yml: under `mkdocs serve` a page that is edited is written alone)
 
 
 class CitationPlugin(BasePlugin):  # type: ignore[misc]
@@ -77,14 +95,17 @@ class CitationPlugin(BasePlugin):  # type: ignore[misc]
         list_page = self.config['list_page'] or None
         if list_page is not None and list_page not in pages:
             raise PluginError(f'gamhilon: list_page: there is no page {list_page}')
+        collects = gc.isenabled()
         try:
-            self.site = self._site(pages, list_page)
-            for name, file in pages.items():
-                with open(file.abs_src_path, encoding='utf-8-sig', errors='strict') as source:
-                    self.site.add(name, source.read())
-            self.site.write(listed(self.config['nocite']))
+            # (a site has many trees, all of which stay: to look for what doesn't takes a third of
+            # the time)
+            gc.disable()
+            self.site = self._written(str(config['config_file_path']), pages, list_page)
         except (GamhilonError, OSError, UnicodeDecodeError) as error:
             raise PluginError(f'gamhilon: {error}') from error
+        finally:
+            if collects:
+                gc.enable()
         for warning in self.site.warnings:
             logger.warning('%s', warning)
         return nav
@@ -111,6 +132,32 @@ class CitationPlugin(BasePlugin):  # type: ignore[misc]
             with open(path, 'w', encoding='utf-8') as file:
                 file.write(style_sheet())
 
+    def _written(self, name: str, pages: Dict[str, Any], list_page: Optional[str]) -> Site:
+        """The site of this configuration: as it was written before but for pages that are edited,
+        where nothing else has changed."""
+        made_of = self._made_of(pages)
+        seen = {page: _stamp(file.abs_src_path) for page, file in pages.items()}
+        kept = _kept.pop(name, None)
+        if kept is not None and kept.made_of == made_of:
+            edited = [page for page in pages if kept.seen[page] != seen[page]]
+            if all(kept.site.rewrite(page, _text_of(pages[page])) for page in edited):
+                _kept[name] = kept._replace(seen=seen)
+                return kept.site
+        site = self._site(pages, list_page)
+        for page, file in pages.items():
+            site.add(page, _text_of(file))
+        site.write(listed(self.config['nocite']))
+        _kept[name] = _Kept(made_of, site, seen)
+        return site
+
+    def _made_of(self, pages: Dict[str, Any]) -> Any:
+        """What a site is made of beside the texts of its pages, to be compared."""
+        style = load(self._style())
+        locales = self.config['locales'] or None
+        return (style, files_for(self.config['locale'] or style.language or 'en-US', locales),
+                dict(self.config), [(page, file.url) for page, file in pages.items()],
+                [(path, _stamp(path)) for path in self._paths()])
+
     def _site(self, pages: Dict[str, Any], list_page: Optional[str]) -> Site:
         urls = {name: file.url for name, file in pages.items()}
 
@@ -131,6 +178,20 @@ class CitationPlugin(BasePlugin):  # type: ignore[misc]
         style = str(self.config['style'])
         path = os.path.join(self.folder, style)
         return path if os.path.isfile(path) else style
+
+
+def _stamp(path: str) -> Tuple[int, int]:
+    """The time and the size of a file; zeros where it can't be told."""
+    try:
+        found = os.stat(path)
+    except OSError:
+        return 0, 0
+    return found.st_mtime_ns, found.st_size
+
+
+def _text_of(file: Any) -> str:
+    with open(file.abs_src_path, encoding='utf-8-sig', errors='strict') as source:
+        return source.read()
 
 
 def _without_front(text: str, front: str) -> str:

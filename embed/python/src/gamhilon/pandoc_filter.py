@@ -2,7 +2,7 @@
 
     pandoc text.md --filter gamhilon-pandoc -o text.html
 
-It reads from the metadata of the text:
+pandoc runs it; by itself it takes --help and --version. It reads from the metadata of the text:
     bibliography             a file of references (CSL-JSON, BibLaTeX, BibTeX, YAML of hayagriva), a
                              list of such files, or a map of names to files or lists of them: a div
                              of the id refs-NAME lists what is cited from the files of that name
@@ -35,6 +35,7 @@ from ._pandoc_inlines import (SPACE, Inlines, capitalized, div, inlines_of_piece
                               strong, text_of, without_quoted_stop, words)
 from ._pandoc_metadata import FilterError, Metadata, Source, Warn, plain_value
 from ._pandoc_style import Style
+from ._version import __version__
 from ._writing import anchor, pieces
 from .answer import Bibliography, Item, Node, Tree
 from .errors import LibraryMissing, Refused
@@ -45,8 +46,13 @@ LIST_PREFIX = 'refs-'
 _KEY = re.compile(r'@([\w*](?:[\w:.#$%&+?<>~/-]*\w)?)')
 
 
-def main() -> int:
-    """Runs the filter as pandoc does."""
+def main(arguments: Optional[List[str]] = None) -> int:
+    """Runs the filter as pandoc does, with the name of a format; or tells what it is."""
+    words = sys.argv[1:] if arguments is None else arguments
+    asks = [word for word in words if word in ('-h', '--help', '--version')]
+    if asks or not words and sys.stdin is not None and sys.stdin.isatty():
+        return _printed(f'gamhilon-pandoc {__version__}' if asks == ['--version']
+                        else (__doc__ or '').strip())
     # texts may nest deeper than Python's own limit
     sys.setrecursionlimit(20000)
     return _console.interruptible(_run)
@@ -54,15 +60,24 @@ def main() -> int:
 
 def _run() -> int:
     try:
-        made = filtered(_document(), _warn)
-        sys.stdout.write(json.dumps(made))
-        return 0
+        return _printed(json.dumps(filtered(_document(), _warn)))
     except Refused as refusal:
         _warn(f'no citations: {refusal}')
         return refusal.status
     except (FilterError, LibraryMissing, OSError) as error:
         _warn(str(error))
         return 1
+
+
+def _printed(text: str) -> int:
+    """Writes to standard output, and gives the exit status."""
+    try:
+        _console.write(text + '\n')
+        return 0
+    except _console.OutputFailed as error:
+        _warn(f'standard output: {error}')
+        _console.close_output()
+        return _console.INPUT_OR_OUTPUT_FAILED
 
 
 def _document() -> Dict[str, Any]:

@@ -4,6 +4,7 @@ from __future__ import annotations
 from dataclasses import replace
 from typing import Callable, List, NamedTuple, Sequence, Tuple
 
+from .._style_parts import bare
 from .._writing import pieces
 from ..answer import Citation, Node, Tree, plain
 from ..csl import Cite
@@ -150,24 +151,6 @@ def _without_meta(tree: Tree) -> Tree:
 
 def _words(text: str) -> Tree:
     return [{'text': text, 'font_style': 'normal', 'font_weight': 'normal'}]
-
-
-def bare(tree: Tree) -> Tree:
-    """A citation without what the style puts around its cites."""
-    cites = [place for place, node in enumerate(tree) if _has_cite(node)]
-    if len(cites) == 1 and not _is_cite(tree[cites[0]]):
-        node = tree[cites[0]]
-        return [{**node, 'children': bare(node['children'])}]
-    return tree[cites[0]:cites[-1] + 1] if cites else tree
-
-
-def _is_cite(node: Node) -> bool:
-    meta = node.get('meta')
-    return isinstance(meta, dict) and 'entry' in meta
-
-
-def _has_cite(node: Node) -> bool:
-    return _is_cite(node) or any(_has_cite(child) for child in node.get('children', []))
 
 
 def _capital(parts: List[Part]) -> List[Part]:

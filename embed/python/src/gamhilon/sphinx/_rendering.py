@@ -12,6 +12,7 @@ from sphinx.errors import ExtensionError
 
 from .. import __version__, csl
 from .._nearest import meant
+from .._style_parts import names_style
 from .._writing import anchor
 from ..answer import Bibliography, Item, Tree, plain
 from ..csl import Cite
@@ -22,7 +23,7 @@ from ._forms import FORMS
 from ._listed import LIST_TYPES, Cited, Listed
 from ._log import Place, warn
 from ._parts import Part, asked_of
-from ._styles import Chosen, names_style, with_label_prefix
+from ._styles import Chosen, with_label_prefix
 
 __all__ = ['Answers', 'Listing', 'Project', 'Target', 'rendered']
 

@@ -5,31 +5,20 @@ import os
 import re
 from dataclasses import dataclass, replace
 from typing import Any, Callable, Dict, Optional
-from xml.etree import ElementTree
 from xml.sax.saxutils import quoteattr
 
 from .. import csl, styles
+from .._style_parts import is_author_date
 from ..csl.style import load
 
-__all__ = ['Chosen', 'chosen', 'default_of', 'names_style', 'with_label_prefix']
+__all__ = ['Chosen', 'chosen', 'default_of', 'with_label_prefix']
 
-_CSL = '{http://purl.org/net/xbiblio/csl}'
 _SORT = '<sort><key macro="author"/><key variable="issued"/><key variable="title"/></sort>'
 _BIBLIOGRAPHY = re.compile(r'<bibliography\b[^>]*>')
 _LIST_SORT = re.compile(r'(<bibliography\b[^>]*>\s*)<sort>.*?</sort>', re.DOTALL)
 _BRACKETS = re.compile(r'(<citation\b.*?<layout )prefix="\[" suffix="\]"', re.DOTALL)
 _LABEL = re.compile(r'<(?:text|number)\b[^>]*\bvariable="citation-(?:number|label)"[^>]*>')
 _PREFIX = re.compile(r'(\bprefix=)("[^"]*"|\'[^\']*\')')
-_NAMES = """<style xmlns="http://purl.org/net/xbiblio/csl" class="in-text" version="1.0">
-<info><title>Parts</title><id>https://example.org/gamhilon/styles/parts</id>
-<updated>2026-11-29T00:00:00+00:00</updated></info>
-<citation {options}><layout delimiter=", ">{layout}</layout></citation></style>"""
-_AUTHOR = """<names variable="author"><name form="short" and="text"/>
-<et-al/><substitute><names variable="editor"/><names variable="translator"/>
-<text variable="title" form="short"/></substitute></names>"""
-_YEAR = """<choose><if variable="issued">
-<date variable="issued"><date-part name="year"/></date></if>
-<else><text term="no date" form="short"/></else></choose>"""
 
 
 @dataclass(frozen=True)
@@ -99,22 +88,8 @@ def with_label_prefix(style: Chosen, prefix: str) -> Chosen:
     return replace(style, style=_LABEL.sub(prefixed, load(style.style).text))
 
 
-def names_style(kind: str) -> str:
-    """A style of which a cite is the authors alone (`short` or `all`), the year (`year`), or the
-    word for *and* (`and`)."""
-    if kind == 'year':
-        return _NAMES.format(options='', layout=_YEAR)
-    if kind == 'and':
-        return _NAMES.format(options='', layout='<text term="and"/>')
-    options = 'et-al-min="3" et-al-use-first="1"' if kind == 'short' else ''
-    return _NAMES.format(options=options, layout=_AUTHOR)
-
-
 def _chosen(name: str, style: str) -> Chosen:
     about = csl.about(style)
     found = load(style)
-    root = ElementTree.fromstring(found.text.encode('utf-8', 'surrogateescape'))
-    formats = [category.get('citation-format') for category in root.iter(f'{_CSL}category')]
     file = found.file if os.path.isfile(found.file) else None
-    return Chosen(name, style, file, about.is_note,
-                  'author-date' in formats or 'author' in formats)
+    return Chosen(name, style, file, about.is_note, is_author_date(style))
