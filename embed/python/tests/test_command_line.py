@@ -486,7 +486,8 @@ def test_what_is_odd_is_told_and_costs_nothing(cites, files):
     ('notes', 'own.csl', 2, 'own.csl: no JSON: Expecting value'),
     ('notes', 'deep.json', 2, 'deep.json: nested deeper than 127 levels\n'),
     ('notes', 'bytes.json', 2, 'bytes.json: no UTF-8 from byte 2\n'),
-    ('notes', 'works.json', 2, 'works.json: citation 0: no citation, which is a list of cites'),
+    ('notes', 'works.json', 2, 'works.json: citation 0: no citation, which is a list of cites or an '
+                               'object with citationItems'),
     ('notes', 'else.json', 2, "else.json: citation 0, cite 0, id: there is no entry 'else'"),
 ])
 def test_what_can_not_be_cited_is_told_with_its_place(cites, files, style, cited, status, said):

@@ -353,7 +353,9 @@ def test_the_note_of_a_citation_goes_before_those_of_its_cites(cites):
 
 
 @pytest.mark.parametrize('citation, said', [
-    ({'citationID': 'x'}, 'citation 0, citationItems: no list of cites'),
+    ({'citationID': 'x'},
+     'citation 0: no citation, which is a list of cites or an object with citationItems'),
+    ({'citationItems': 7}, 'citation 0, citationItems: no list of cites'),
     ({'citationItems': [], 'properties': 7}, 'citation 0, properties: no object'),
     ({'citationItems': [], 'properties': {'noteIndex': -1}},
      'citation 0, noteIndex: -1 is not a whole number, the number of a note'),
@@ -634,7 +636,8 @@ def test_the_locale_files_of_a_language(tmp_path, tag, tags):
 
 @pytest.mark.parametrize('citations, place, said', [
     ('x', (None, None, None), 'the citations are no list of citations'),
-    ([3], (0, None, None), 'citation 0: no citation, which is a list of cites'),
+    ([3], (0, None, None),
+     'citation 0: no citation, which is a list of cites or an object with citationItems'),
     ([[], ['one']], (1, 0, None), 'citation 1, cite 0: no cite, which is an object'),
     ([[{'id': 'one'}, {'locator': '4'}]], (0, 1, 'id'),
      'citation 0, cite 1, id: a cite has to have an id'),

@@ -72,7 +72,8 @@ def test_links_in_the_other_forms():
     listed = bibliography([node('doi:10.1000/a_b')])
     markdown, latex = (write(listed) for write in WRITERS[1:])
     assert '10.1000/a\\_b](<https://doi.org/10.1000/a_b>)' in markdown
-    assert r'\href{https://doi.org/10.1000/a_b}{10.1000/a\_b}' in latex
+    shown = latex.replace(r'\allowbreak{}', '')
+    assert r'\href{https://doi.org/10.1000/a_b}{10.1000/a\_b}' in shown
 
 
 def test_an_address_may_go_on_in_the_next_text_and_links_stay():

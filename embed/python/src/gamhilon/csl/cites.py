@@ -26,6 +26,7 @@ _FLAGS = ('suppress-author', 'author-only', 'hidden')
 _KEYS = (*_TEXTS, *_FLAGS, 'note')
 _CITATION_KEYS = ('schema', 'citationID', 'citationItems', 'properties')
 _PROPERTIES = ('noteIndex', 'unsorted')
+_NO_CITATION = 'no citation, which is a list of cites or an object with citationItems'
 
 
 @dataclass(frozen=True)
@@ -122,11 +123,13 @@ class CitationReader:
         if isinstance(value, Mapping):
             return self._citation_of_object(number, value)
         if not _is_list(value):
-            raise CitationRefused(number, None, None, 'no citation, which is a list of cites')
+            raise CitationRefused(number, None, None, _NO_CITATION)
         return Citation(self._cites(number, value))
 
     def _citation_of_object(self, number: int, value: Mapping[str, Any]) -> Citation:
-        cites, properties = value.get('citationItems'), value.get('properties')
+        if 'citationItems' not in value:
+            raise CitationRefused(number, None, None, _NO_CITATION)
+        cites, properties = value['citationItems'], value.get('properties')
         if not _is_list(cites):
             raise CitationRefused(number, None, 'citationItems', 'no list of cites')
         if not isinstance(properties, (Mapping, type(None))):
