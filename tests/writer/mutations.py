@@ -12,7 +12,7 @@ sys.path[1:1] = [os.path.join(os.path.dirname(HERE), name) for name in ('styles'
 from items import mutated_documents as mutated_items
 from mutated import mutated_documents as mutated_styles
 
-STATUSES = (0, 2, 4, 9)
+STATUSES = (0, 2, 4)
 VALUES = [None, True, False, 0, 1, -1, 1.5, 10 ** 20, '', 'a', '12', '12-14', 'p. 12, § 3', 'ch. 1', '<i>x</i>', '“x”', [], {}, ['a'], '\u0301', '\0',
           'page', 'chapter', 'darwin', 'x' * 300]
 KEYS = ['id', 'locator', 'label', 'prefix', 'suffix', 'suppress-author', 'author-only', 'hidden', 'note', 'other']
