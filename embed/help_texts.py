@@ -22,7 +22,7 @@ class Entry(NamedTuple):
     # The command, as `cite`; the argument, as `<FILE>...`; the option, as `-h, --help`.
     spec: str
     help: str
-    # The values that it may have, where help tells them all.
+    # The values that it may have, where help has them all.
     values: Tuple[str, ...]
 
     @property
@@ -43,7 +43,7 @@ class Entry(NamedTuple):
 
     @property
     def is_repeated(self) -> bool:
-        """Whether it may stand more than once. Of options only the words of their help tell."""
+        """Whether it may stand more than once. For options only the words of their help say so."""
         return self.spec.endswith('...') or 'several times' in self.help
 
 

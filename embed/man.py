@@ -3,7 +3,7 @@
 of what `gamhilon --help` says.
 
     man.py --write PROGRAM   writes them into man/ and completions/, of this built program
-    man.py --check PROGRAM   tells whether they are what this program says, by the exit status too
+    man.py --check PROGRAM   says whether they are what this program says, by the exit status too
 """
 from __future__ import annotations
 
@@ -33,9 +33,9 @@ Citation Style Language, from references in CSL-JSON. What disambiguates works t
 which cites are grouped and collapsed, and which number each work has is decided for the whole
 document, so that citations and bibliography always agree.
 
-A style is told by the path of its file, or by a name: that of a style that is built in, which
+A style is given as the path of its file, or as a name: that of a style that is built in, which
 `gamhilon styles` prints, or that of one in the folder of styles. A style that is built in goes
-before one of its name in that folder, unless `--styles` tells the folder.
+before one of its name in that folder, unless `--styles` names the folder.
 
 The name `-` stands for the standard input, once at most.
 
@@ -44,9 +44,9 @@ What is odd in a file that is read gets a line on standard error, as
 Where there is no answer, a line says why, as `FILE:LINE:COLUMN: error: ..` or `FILE: error: ..`,
 and the exit status says it too.'''
 FILES = (
-    ('{STYLES}', 'The folder of styles, unless `--styles` tells another one.'),
+    ('{STYLES}', 'The folder of styles, unless `--styles` names another one.'),
     ('{STYLES}/dependent', 'Styles that stand for another one.'),
-    ('{LOCALES}', 'The folder of locale files, unless `--locales` tells another one. '
+    ('{LOCALES}', 'The folder of locale files, unless `--locales` names another one. '
                   'The words of American English are built in.'))
 SEE_ALSO = '''\
 `pandoc`(1)
@@ -61,7 +61,7 @@ def folders() -> Dict[str, str]:
         with open(f'{SOURCE}/{file}', encoding='utf-8') as source:
             told = re.search(rf'^const {name}: &str = "(.+)";$', source.read(), re.MULTILINE)
         if told is None:
-            raise HelpFault(f'{SOURCE}/{file} tells no {name}')
+            raise HelpFault(f'{SOURCE}/{file} has no {name}')
         found[name] = told.group(1)
     return found
 
@@ -168,7 +168,7 @@ def options(program: Program) -> str:
 
 
 def title_of(group: Sequence[str], all_of_them: int) -> str:
-    """The title over the options of some commands, of which '' is the program without one."""
+    """The title over the options of some commands; '' is the program without one."""
     if len(group) == all_of_them:
         return 'Of all commands'
     if group == ('',):
@@ -178,14 +178,14 @@ def title_of(group: Sequence[str], all_of_them: int) -> str:
 
 
 def exit_statuses(program: Program) -> str:
-    """The exit statuses, of which the program's own help says all in a sentence."""
+    """The exit statuses, all in one sentence of the program's own help."""
     for note in program.help.notes:
         told = re.split(r'(?:,(?: and)?|^The exit status is) (\d+) where ', ' '.join(note.split()))
         if told[0] == '' and len(told) > 2:
             rows = zip(told[1::2], told[2::2])
             return listed((bold(status), prose(f'Where {when.rstrip(".")}.'))
                           for status, when in rows)
-    raise HelpFault('help tells no exit statuses')
+    raise HelpFault('help has no exit statuses')
 
 
 def examples(program: Program) -> str:

@@ -1,6 +1,6 @@
 """release.py: the archive of a release, of what build.py has built: the programs with a man page
 and completions, the library, the header, the files for pkg-config and CMake, styles, a locale file,
-the licences, and a list of checksums, which tells the commit and the toolchain that proved it. The
+the licences, and a list of checksums, which names the commit and the toolchain that proved it. The
 same files can be installed below a folder, or be a package for Debian (debian.py)."""
 from __future__ import annotations
 

@@ -1,5 +1,5 @@
 """shell_completions.py: completions of the program `gamhilon` for bash, zsh and fish, made of what
-its help says (help_texts.py). The name of a value tells what completes it; a style is completed by
+its help says (help_texts.py). The name of a value says what completes it; a style is completed by
 the names of `gamhilon styles`, files, and, once it has a beginning, the names of the folder of
 styles."""
 from __future__ import annotations

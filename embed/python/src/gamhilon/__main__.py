@@ -46,10 +46,10 @@ class Parser(argparse.ArgumentParser):
 
     def error(self, message: str) -> NoReturn:
         self.print_usage(sys.stderr)
-        self.exit(BAD_COMMAND_LINE, f'{self.prog}: {message} (--help tells more)\n')
+        self.exit(BAD_COMMAND_LINE, f'{self.prog}: {message} (see --help)\n')
 
     def _print_message(self, message: str, file: Any = None) -> None:
-        """Prints help, of which a reader such as `head` may take a part."""
+        """Prints help. A reader such as `head` may take a part of it."""
         try:
             super()._print_message(message, file)
             if file is not None:
@@ -65,7 +65,7 @@ class Commands:
         self._commands = made.add_subparsers(dest='command', metavar='COMMAND')
 
     def add_parser(self, name: str, *, help: str, epilog: Optional[str] = None) -> Any:
-        """Adds a command. `help` is what it is, and `epilog` stands behind its options, line by
+        """Adds a command. `help` is what it is, and `epilog` follows its options, line by
         line."""
         return self._commands.add_parser(
             name, help=help, description=f'{help[:1].upper()}{help[1:]}.', epilog=epilog,
@@ -197,7 +197,7 @@ def main(arguments: Optional[List[str]] = None) -> int:
     if 'standalone' in words:
         words.to = words.to or ('html' if words.standalone else 'text')
     if words.command == 'latex' and not (words.paper or words.where or words.install):
-        made.error('latex: tell a PAPER, --where or --install')
+        made.error('latex: give a PAPER, --where or --install')
     if _inputs(words) > 1:
         made.error('- stands for several files, and standard input is read once')
     return _console.interruptible(partial(run, words))

@@ -36,9 +36,9 @@ class CitationAsked:
 
 @dataclass
 class Aux:
-    """What a document asks for: its style, its language as options tell it and as babel names it,
+    """What a document asks for: its style, its language as options give it and as babel names it,
     the files of references, the citations in their order, and the keys that are listed without
-    being cited. `checksum` tells it from what another run of LaTeX has written."""
+    being cited. `checksum` differs where another run of LaTeX wrote something else."""
 
     style: str = ''
     locale: str = ''

@@ -75,7 +75,7 @@ def _install() -> str:
 
 
 def _home_tree() -> Optional[str]:
-    """The user's own TeX tree, where kpsewhich tells it."""
+    """The user's own TeX tree, where kpsewhich knows it."""
     try:
         done = subprocess.run(['kpsewhich', '-var-value=TEXMFHOME'], capture_output=True, text=True)
     except OSError:

@@ -3,22 +3,13 @@ from __future__ import annotations
 
 from typing import Optional
 
-_TAGS = {
-    'acadian': 'fr-CA', 'afrikaans': 'af-ZA', 'arabic': 'ar', 'australian': 'en-GB',
-    'austrian': 'de-AT', 'basque': 'eu', 'brazil': 'pt-BR', 'brazilian': 'pt-BR',
-    'british': 'en-GB', 'bulgarian': 'bg-BG', 'canadian': 'en-GB', 'canadien': 'fr-CA',
-    'catalan': 'ca-AD', 'croatian': 'hr-HR', 'czech': 'cs-CZ', 'danish': 'da-DK', 'dutch': 'nl-NL',
-    'estonian': 'et-EE', 'farsi': 'fa-IR', 'finnish': 'fi-FI', 'french': 'fr-FR',
-    'galician': 'gl-ES', 'german': 'de-DE', 'greek': 'el-GR', 'hebrew': 'he-IL',
-    'hungarian': 'hu-HU', 'icelandic': 'is-IS', 'indonesian': 'id-ID', 'italian': 'it-IT',
-    'japanese': 'ja-JP', 'korean': 'ko-KR', 'latin': 'la', 'latvian': 'lv-LV',
-    'lithuanian': 'lt-LT', 'naustrian': 'de-AT', 'newzealand': 'en-GB', 'ngerman': 'de-DE',
-    'norsk': 'nb-NO', 'norwegian': 'nb-NO', 'nswissgerman': 'de-CH', 'nynorsk': 'nn-NO',
-    'polish': 'pl-PL', 'portuges': 'pt-PT', 'portuguese': 'pt-PT', 'romanian': 'ro-RO',
-    'russian': 'ru-RU', 'serbian': 'sr-RS', 'slovak': 'sk-SK', 'slovene': 'sl-SI',
-    'slovenian': 'sl-SI', 'spanish': 'es-ES', 'swedish': 'sv-SE', 'swissgerman': 'de-CH',
-    'thai': 'th-TH', 'turkish': 'tr-TR', 'ukrainian': 'uk-UA', 'vietnamese': 'vi-VN',
+from .references.bib_tables import LANGUAGES
+
+_MORE = {
+    'galician': 'gl-ES', 'indonesian': 'id-ID', 'korean': 'ko-KR', 'norwegian': 'nb-NO',
+    'portuges': 'pt-PT', 'slovenian': 'sl-SI',
 }
+"""Those that the table for entries lacks."""
 
 
 def tag_of(language: str) -> Optional[str]:
@@ -27,4 +18,6 @@ def tag_of(language: str) -> Optional[str]:
         >>> tag_of('ngerman'), tag_of('english')
         ('de-DE', None)
     """
-    return _TAGS.get(language.strip().lower())
+    name = language.strip().lower()
+    tag = LANGUAGES.get(name) or _MORE.get(name)
+    return None if tag == 'en-US' else tag

@@ -9,8 +9,8 @@ from ._console import name_of
 
 def items_of_files(paths: Sequence[str], locale: Optional[str],
                    warn: Callable[[str, str], None]) -> List[references.Item]:
-    """The references of files, of which the first of a key counts. Warns of what in them is no
-    entry, with the name of the file. Raises ReferencesError and OSError."""
+    """The references of files; of those with one key the first counts. Warns of what is no entry,
+    with the name of the file. Raises ReferencesError and OSError."""
     found: Dict[str, references.Item] = {}
     for path in paths:
         told = references.load(path, lang=locale or 'en-US')

@@ -22,14 +22,14 @@ _YEAR = """<choose><if variable="issued">
 
 def is_author_date(style: str) -> bool:
     """Whether the cites of a style, by its name, its path or its text, have authors, as its
-    categories tell. Raises StyleMissing."""
+    categories say. Raises StyleMissing."""
     root = ElementTree.fromstring(load(style).text.encode('utf-8', 'surrogateescape'))
     formats = [category.get('citation-format') for category in root.iter(f'{_CSL}category')]
     return 'author-date' in formats or 'author' in formats
 
 
 def names_style(kind: str) -> str:
-    """A style of which a cite is the authors alone (`short` or `all`), the year (`year`), or the
+    """A style whose cites are the authors alone (`short` or `all`), the year (`year`), or the
     word for *and* (`and`)."""
     if kind == 'year':
         return _NAMES.format(options='', layout=_YEAR)

@@ -11,11 +11,11 @@ from __future__ import annotations
 
 import re
 from dataclasses import dataclass, replace
-from typing import Iterator, List, Mapping, NamedTuple, Optional, Sequence, Tuple, Union, overload
+from typing import Iterator, List, Mapping, NamedTuple, Optional, Sequence, Tuple, Union
 
 from . import _locators
 from ._markdown_inlines import MARKS, PLAIN, SPACES, WORD, InlineReader
-from .csl.cites import Cite
+from .csl.cites import Cite, CiteSequence
 from .csl.locales import Locales
 from .errors import GamhilonError
 
@@ -41,7 +41,7 @@ class CitationTextRefused(GamhilonError, ValueError):
 
 
 @dataclass(frozen=True)
-class TextCitation(Sequence[Cite]):
+class TextCitation(CiteSequence):
     """A citation of a text: its cites, which it is a sequence of.
 
     `author_in_text` is whether the author of the first cite stands in the text, as in
@@ -53,18 +53,6 @@ class TextCitation(Sequence[Cite]):
     author_in_text: bool
     start: int
     end: int
-
-    @overload
-    def __getitem__(self, place: int) -> Cite: ...
-
-    @overload
-    def __getitem__(self, place: slice) -> Sequence[Cite]: ...
-
-    def __getitem__(self, place: Union[int, slice]) -> Union[Cite, Sequence[Cite]]:
-        return self.cites[place]
-
-    def __len__(self) -> int:
-        return len(self.cites)
 
 
 def parse_citations(text: str, *, language: Optional[str] = None,

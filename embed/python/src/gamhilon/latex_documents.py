@@ -57,7 +57,7 @@ def folder() -> str:
 def write_bbl(path: str, *, locales: Optional[csl.Locales] = None) -> List[DocumentWarning]:
     """Writes the .bbl file beside the .aux file of a document, and gives what is odd in it.
 
-    Style, language and references are those that the document tells. Raises OSError where a file
+    Style, language and references are those that the document names. Raises OSError where a file
     can't be read or written, NoCitations where it isn't of a document with gamhilon.sty, and what
     `csl.render` and `references.load` raise.
     """

@@ -43,7 +43,7 @@ get_relative_url: Any = importlib.import_module('mkdocs.utils').get_relative_url
 
 
 class _Kept(NamedTuple):
-    """A site as it was written, of what, and of which files of pages."""
+    """A site as it was written, what it was made of, and its files of pages."""
 
     made_of: Any
     site: Site
@@ -97,8 +97,8 @@ class CitationPlugin(BasePlugin):  # type: ignore[misc]
             raise PluginError(f'gamhilon: list_page: there is no page {list_page}')
         collects = gc.isenabled()
         try:
-            # (a site has many trees, all of which stay: to look for what doesn't takes a third of
-            # the time)
+            # (a site has many trees, and all stay: a search for what doesn't takes a third of the
+            # time)
             gc.disable()
             self.site = self._written(str(config['config_file_path']), pages, list_page)
         except (GamhilonError, OSError, UnicodeDecodeError) as error:

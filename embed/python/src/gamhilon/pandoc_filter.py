@@ -47,7 +47,7 @@ _KEY = re.compile(r'@([\w*](?:[\w:.#$%&+?<>~/-]*\w)?)')
 
 
 def main(arguments: Optional[List[str]] = None) -> int:
-    """Runs the filter as pandoc does, with the name of a format; or tells what it is."""
+    """Runs the filter as pandoc does, with the name of a format; or says what it is."""
     words = sys.argv[1:] if arguments is None else arguments
     asks = [word for word in words if word in ('-h', '--help', '--version')]
     if asks or not words and sys.stdin is not None and sys.stdin.isatty():

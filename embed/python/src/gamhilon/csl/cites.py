@@ -10,7 +10,8 @@ from .._nearest import meant
 from .errors import CitationRefused, place
 from .warned import Warned
 
-__all__ = ['LABELS', 'Citation', 'CitationLike', 'CitationReader', 'Cite', 'CiteLike']
+__all__ = ['LABELS', 'Citation', 'CitationLike', 'CitationReader', 'Cite', 'CiteLike',
+           'CiteSequence']
 
 LABELS = (
     'act', 'appendix', 'article-locator', 'book', 'canon', 'chapter', 'column', 'elocation',
@@ -61,21 +62,10 @@ CiteLike = Union[Cite, Mapping[str, Any]]
 `suppress-author`, `author-only`, `hidden`, `note`."""
 
 
-@dataclass(frozen=True)
-class Citation(Sequence[Cite]):
-    """A citation, as a sequence of its cites. `note_index` is the number of the note in which it
-    stands, 0 or None where it tells none. The cites of one that is `unsorted` keep their order.
-
-        >>> seen = Citation((Cite('roe'), Cite('doe99')), note_index=3, unsorted=True)
-        >>> [cite.id for cite in seen]
-        ['roe', 'doe99']
-        >>> seen.data()['properties']
-        {'noteIndex': 3, 'unsorted': True}
-    """
+class CiteSequence(Sequence[Cite]):
+    """A sequence of its `cites`."""
 
     cites: Tuple[Cite, ...]
-    note_index: Optional[int] = None
-    unsorted: bool = False
 
     def __len__(self) -> int:
         return len(self.cites)
@@ -88,6 +78,23 @@ class Citation(Sequence[Cite]):
 
     def __getitem__(self, index: Union[int, slice]) -> Union[Cite, Sequence[Cite]]:
         return self.cites[index]
+
+
+@dataclass(frozen=True)
+class Citation(CiteSequence):
+    """A citation, as a sequence of its cites. `note_index` is the number of the note in which it
+    stands, 0 or None where it gives none. The cites of one that is `unsorted` keep their order.
+
+        >>> seen = Citation((Cite('roe'), Cite('doe99')), note_index=3, unsorted=True)
+        >>> [cite.id for cite in seen]
+        ['roe', 'doe99']
+        >>> seen.data()['properties']
+        {'noteIndex': 3, 'unsorted': True}
+    """
+
+    cites: Tuple[Cite, ...]
+    note_index: Optional[int] = None
+    unsorted: bool = False
 
     def data(self) -> Union[List[Any], Dict[str, Any]]:
         """The citation as JSON has it: a list of cites, or an object where more is said of it."""
