@@ -1,5 +1,6 @@
 """Mentions in the mode `csl`: what is compared of a document. Each cited entry has two, one as its
-first cite reads, and one as a cite that names it again.
+first cite reads, and one as a cite that names it again. Where a cite repeats the one before it, its
+mention is written once more, as it reads in this position.
 """
 from dataclasses import dataclass, field, replace
 from typing import Optional
@@ -62,6 +63,12 @@ class Mention:
     def told(self):
         """The properties in its state."""
         return replace(self.properties, means=Means(self.names, self.chosen))
+
+    def repeated(self, position):
+        """The mention once more, in its state, as a cite reads that repeats the one before it so;
+        nothing of it is written yet."""
+        there = replace(self.properties, position=position)
+        return replace(self, properties=there, tree=[], text='')
 
     def note_first(self, picker):
         """What its first writing tells, once and for all."""

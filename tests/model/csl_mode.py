@@ -5,7 +5,7 @@ account. Three tables stand one after another: nothing; names; the condition. Th
 given, and nothing is compared any more.
 """
 from collections import Counter
-from dataclasses import dataclass
+from dataclasses import dataclass, replace
 from typing import Optional
 
 from bibliography import first_field
@@ -13,7 +13,8 @@ from cites import OfItem, note_of
 from csl_authors import substitute_repeated
 from csl_mentions import Mention, groups_of
 from csl_names import told_by_names
-from csl_places import has_blocks, in_blocks, note_facts, settle_repeats, shrink
+from csl_places import Shown, has_blocks, in_blocks, is_looked_at, note_facts
+from csl_places import settle_parts, settle_repeats, shrink
 from pieces import DIFFERENT, Properties
 from states import Means
 from trees import has_content, simplified
@@ -38,9 +39,13 @@ class CslCite(OfItem):
     mention: Optional[Mention] = None
     suffix: Optional[int] = None
     suffix_class: Optional[int] = None
+    # The names by which it is brought together with others.
+    names: Optional[object] = None
     # Of the final order.
     block: Optional[list] = None
     position: str = DIFFERENT
+    shown: Optional[Shown] = None
+    part: Optional[list] = None
     number: int = 0
     override: Optional[str] = None
     verdict: Optional[str] = None
@@ -64,7 +69,7 @@ class CslMode:
         self.laters = [self.mention(key, True) for key in self.listed]
         # In the order of the bibliography, the first one of an entry before the later one.
         self.mentions = [mention for pair in zip(self.firsts, self.laters) for mention in pair]
-        self.suffix_classes, self.suffixes = {}, {}
+        self.suffix_classes, self.suffixes, self.names_of_mentions = {}, {}, set()
 
     def entries_listed(self):
         cited = self.document.cited()
@@ -154,18 +159,67 @@ class CslMode:
 
     # The cites in their places
 
-    def place_cites(self):
-        """The requests' cites in their final order, with all that the last writing is told."""
+    def tell_cites(self):
+        """What each cite is told by, and what it would show if it repeated none."""
         firsts = {mention.key: mention for mention in self.firsts}
         laters = {mention.key: mention for mention in self.laters}
+        self.names_of_mentions = {mention.shown_names for mention in self.mentions}
         for row in self.rows:
             for cite in row:
                 cite.mention = (firsts if cite.is_first else laters)[cite.key]
                 cite.suffix = self.suffixes.get(cite.key)
                 cite.suffix_class = self.suffix_classes.get(cite.key)
+                cite.shown = self.shown_alone(cite.mention)
+                cite.names = cite.shown.names
+
+    def shown_alone(self, mention):
+        return Shown(mention.shown_names, mention.text, mention.shows_number, mention.shows_date)
+
+    def shown_repeated(self, cite):
+        """What a cite shows that repeats the one before it, by its mention as it is written so. Its
+        text counts where it is the mention's own. Names that no mention shows are those of no other
+        cite."""
+        repeated = cite.mention.repeated(cite.position)
+        self.write(repeated)
+        self.events['repetition'] += 1
+        self.events['repetition that reads otherwise'] += repeated.text != cite.mention.text
+        shown = self.shown_alone(repeated)
+        if shown.names is not None and shown.names not in self.names_of_mentions:
+            self.events['names of a repetition alone'] += 1
+            shown = replace(shown, names=cite)
+        return shown if shown.text == cite.mention.text else replace(shown, text='')
+
+    def look_at_firsts(self):
+        """The first cite of a request is brought together with others by the names that it shows
+        itself, since it repeats the same cite in any order of its request."""
+        settle_repeats(self.rows)
+        for row in filter(is_looked_at, self.rows):
+            if row[0].position != DIFFERENT:
+                row[0].names = self.shown_repeated(row[0]).names
+
+    def look_at_all(self):
+        """What cites show in their final order."""
+        settle_repeats(self.rows)
+        for row in filter(is_looked_at, self.rows):
+            for cite in row:
+                if cite.position != DIFFERENT:
+                    cite.shown = self.shown_repeated(cite)
+
+    def bring_together(self):
+        for row in self.rows:
+            for cite in row:
+                cite.block = [cite]
         self.rows = [in_blocks(row, self.events) if row and has_blocks(row[0].citation) else row
                      for row in self.rows]
-        settle_repeats(self.rows)
+
+    def place_cites(self):
+        """The requests' cites in their final order, with all that the last writing is told."""
+        self.tell_cites()
+        self.look_at_firsts()
+        self.bring_together()
+        self.look_at_all()
+        for row in self.rows:
+            settle_parts(row, self.events)
         flat = [cite for row in self.rows for cite in row]
         if not self.is_ordered:
             in_order = dict.fromkeys(cite.key for cite in flat)

@@ -2,8 +2,12 @@
 numbers that stand together.
 
 A cite here is a `CslCite`, whose `mention` is as the third table has it. What is found out of it in
-turn are its `block`, `position`, `number`, `override` and `verdict`, and whether it is `collapsed`.
+turn are its `block` and its `position`; by its `shown`, which tells what it shows there, its
+`part`; then its `number`, `override` and `verdict`, and whether it is `collapsed`.
 """
+from dataclasses import dataclass
+from typing import Optional
+
 from collapse import EN_DASH
 from pieces import DIFFERENT, IBID, IBID_WITH_LOCATOR
 
@@ -61,14 +65,14 @@ def has_blocks(citation):
     return 'cite_group_delimiter' in citation or citation.get('collapse') in BY_YEARS
 
 
+def is_looked_at(row):
+    """What its cites show counts: it has two at least, and its style groups or collapses them."""
+    return len(row) > 1 and (has_blocks(row[0].citation) or 'collapse' in row[0].citation)
+
+
 def words_between(cite, following):
     """Words stand behind the one cite, or before the other."""
     return cite.item.get('apart') == 'both' or 'apart' in following.item
-
-
-def names_of(cite):
-    """The names of a cite as they are shown, by which it stands in a block."""
-    return None if cite.is_hidden else cite.mention.shown_names
 
 
 def in_blocks(row, events):
@@ -77,58 +81,94 @@ def in_blocks(row, events):
     part, blocks = 0, {}
     for place, cite in enumerate(row):
         part += place > 0 and words_between(row[place - 1], cite)
-        names = names_of(cite)
+        names = None if cite.is_hidden else cite.names
         key = ('alone', place) if names is None else ('part', part, names)
         blocks.setdefault(key, []).append(cite)
     in_order = []
     for block in blocks.values():
         events['blocks of more than one'] += len(block) > 1
-        for place, cite in enumerate(block):
+        for cite in block:
             cite.block = block
-            cite.override = cite.citation.get('cite_group_delimiter', ', ') if place else None
         in_order += block
     events['requests with another order'] += in_order != row
     events['parts behind words'] += part
     return in_order
 
 
+# Parts, by the final order
+
+
+@dataclass(frozen=True)
+class Shown:
+    """What a cite shows before it is cut. It has no text where it reads as it does by its position
+    alone."""
+    names: Optional[object]
+    text: str
+    has_number: bool
+    has_date: bool
+
+
+def names_shown(cite):
+    return None if cite.is_hidden else cite.shown.names
+
+
+def settle_parts(row, events):
+    """Divides each block where other names are shown: a cite begins a part if it is the first of
+    its block, if the part before shows no names, or if it shows other names than that part. Each
+    but the first of a part has the cite group delimiter before it."""
+    for before, cite in zip([None] + row, row):
+        names = names_shown(cite)
+        is_first = before is None or before.block is not cite.block
+        of_part = None if is_first else names_shown(before.part[0])
+        if of_part is not None and names in (None, of_part):
+            cite.part = before.part
+            cite.part.append(cite)
+            cite.override = cite.citation.get('cite_group_delimiter', ', ')
+            events['cite without names in a part'] += names is None
+        else:
+            cite.part = [cite]
+            events['part behind another of its block'] += not is_first
+
+
 # Years
 
 
 def can_be_cut(cite):
-    """It repeats none, and shows a date."""
-    return cite.position == DIFFERENT and cite.mention.shows_date
+    """It shows names and a date."""
+    return names_shown(cite) is not None and cite.shown.has_date
 
 
-def shrink_blocks(row, citation, events):
-    """Each cite of a block but the first leaves its names out, if it can be cut."""
+def shrink_parts(row, citation, events):
+    """Each cite of a part but the first leaves its names out, if it can be cut."""
     after = citation.get('after_collapse_delimiter')
     by_year = citation['collapse'] == 'year'
-    located = [cite.block for cite in row if 'locator' in cite.item]
+    located = [cite.part for cite in row if 'locator' in cite.item]
     for place, cite in enumerate(row):
-        if cite is not cite.block[0]:
-            cite.verdict = 'first' if can_be_cut(cite) else None
-            events['verdict first'] += can_be_cut(cite)
-            events['later cite of a block that can\'t be cut'] += not can_be_cut(cite)
-            if by_year and after is not None and any(block is cite.block for block in located):
+        if cite is not cite.part[0]:
+            is_cut = can_be_cut(cite)
+            cite.verdict = 'first' if is_cut else None
+            events['verdict first'] += is_cut
+            events['verdict first of a cite that repeats'] += is_cut and cite.position != DIFFERENT
+            events['later cite of a part that can\'t be cut'] += not is_cut
+            if by_year and after is not None and any(part is cite.part for part in located):
                 cite.override = after
-                events['after-collapse delimiter in a block'] += 1
-        elif place and (by_year or len(row[place - 1].block) > 1):
+                events['after-collapse delimiter in a part'] += 1
+        elif place and (by_year or len(row[place - 1].part) > 1):
             cite.override = after
-            events['cite behind a block'] += 1
+            events['cite behind a part'] += 1
 
 
 def may_be_suffix_alone(cite):
-    return (can_be_cut(cite) and not cite.is_hidden and 'locator' not in cite.item
-            and cite.mention.text != '' and cite.suffix is not None
+    return (cite.shown.has_date and not cite.is_hidden and 'locator' not in cite.item
+            and cite.shown.text != '' and cite.suffix is not None
             and cite.item.get('apart') != 'both')
 
 
 def goes_on(cite, following):
     """The next cite reads like this one, but for another suffix of one class."""
     return (cite.key != following.key and cite.suffix_class == following.suffix_class
-            and cite.mention.text == following.mention.text
-            and names_of(cite) == names_of(following) and 'apart' not in following.item)
+            and cite.shown.text == following.shown.text
+            and names_shown(cite) == names_shown(following) and 'apart' not in following.item)
 
 
 def longest_runs(members, fits, links):
@@ -149,6 +189,7 @@ def shrink_suffixes(row, citation, events):
     are asked for, of three or more whose suffixes rise by one only the ends are shown."""
     for run in longest_runs(row, may_be_suffix_alone, goes_on):
         events['runs of suffixes of more than one'] += len(run) > 1
+        events['run with a cite that repeats'] += len(run) > 1 and run[0].position != DIFFERENT
         for cite in run[1:]:
             cite.verdict = 'year-suffix'
             cite.override = citation.get('year_suffix_delimiter')
@@ -176,7 +217,7 @@ def cut_to_ends(run, events):
 
 
 def may_be_in_range(cite):
-    return (cite.mention.shows_number and not cite.is_hidden and 'locator' not in cite.item
+    return (cite.shown.has_number and not cite.is_hidden and 'locator' not in cite.item
             and 'apart' not in cite.item)
 
 
@@ -201,6 +242,6 @@ def shrink(row, citation, events):
     if how == 'citation-number':
         shrink_numbers(row, citation, events)
     if how in BY_YEARS:
-        shrink_blocks(row, citation, events)
+        shrink_parts(row, citation, events)
     if how in ('year-suffix', 'year-suffix-ranged'):
         shrink_suffixes(row, citation, events)

@@ -35,6 +35,8 @@ class CslGenerator(CiteGenerator):
         self.p_purpose = r.choice([0, 0, 0, 0.1, 0.4])
         self.p_apart = r.choice([0, 0, 0, 0.1, 0.4])
         self.p_later = r.choice([0, 0.2, 0.6])
+        self.p_repeated = r.choice([0, 0, 0.3, 0.8])
+        self.p_ibid = r.choice([0, 0.5, 0.9]) if self.p_repeated else 0
         if 'runs' in habit:
             self.p_locator, self.p_hidden, self.p_later = (r.choice([0, 0, 0.1]) for _ in range(3))
 
@@ -85,8 +87,25 @@ class CslGenerator(CiteGenerator):
         parts += [number('locator', prefix=', ')] if self.chance(0.4) else []
         return [group(parts)] if self.chance(0.5) else parts
 
+    def ibid_elements(self, elements):
+        """Elements for cites that don't repeat the one before, and others for those that do: a
+        word, nothing but a locator, or names in another form than elsewhere."""
+        names = self.names()
+        names['options'] = {'name_form': self.pick(['long', 'short'])}
+        said = self.pick([[text('Ibid.')], [], [names, text(' ibid.')], [names, self.date()]])
+        position = self.pick(['ibid', 'ibid', 'ibid-with-locator'])
+        said = said + [number('locator', prefix=', ')]
+        return [{'kind': 'choose', 'branches': [{'if': [position], 'children': said}],
+                 'else': elements}]
+
     def elements(self):
         return self.later_elements() if self.chance(self.p_later) else super().elements()
+
+    def citation(self):
+        c = super().citation()
+        if self.chance(self.p_ibid):
+            c['elements'] = self.ibid_elements(c['elements'])
+        return c
 
     # Requests
 
@@ -95,6 +114,23 @@ class CslGenerator(CiteGenerator):
         if self.chance(self.p_apart):
             i['apart'] = self.pick(['before', 'both'])
         return i
+
+    def again(self, item):
+        """The same entry once more, perhaps with another locator."""
+        more = {'locator': ['page', self.pick('35')]} if self.chance(0.3) else {}
+        return {'entry': item['entry'], **more}
+
+    def requests(self, styles, keys):
+        """Some have a cite twice, or a request before them that has their first cite alone."""
+        answer = []
+        for request in super().requests(styles, keys):
+            items = request['items']
+            if items and self.chance(self.p_repeated):
+                answer.append({**request, 'items': [self.again(items[0])]})
+            if items and self.chance(self.p_repeated):
+                items.insert(self.r.randrange(len(items)) + 1, self.again(self.pick(items)))
+            answer.append(request)
+        return answer
 
     def document(self):
         d = super().document()

@@ -1,5 +1,5 @@
 -- What walks over requests have made so far, one more.
-use Rattle.std.proofs.Common.{◌≡◌, ℕ, ◌+◌, ◌<◌, ◌≤◌, Bool, List, [], ◌∷◌, ◌++◌, length, map, take, get_or, ap, sym, subst, ◌∙◌, arith}
+use Rattle.std.proofs.Common.{◌≡◌, ℕ, ◌+◌, ◌<◌, ◌≤◌, Bool, List, [], ◌∷◌, ◌++◌, length, map, min, take, get_or, ap, sym, subst, ◌∙◌, arith}
 use Rattle.std.specs.Prelude.{IfOk, Result, zip}
 use Rattle.std.specs.List.{enumerate_from}
 use Rattle.std.specs.Option.{option_and_then}
@@ -10,10 +10,11 @@ use Rattle.std.proofs.lemmas.Slice.Zip.{get_or-zip, length-zip}
 use Rattle.csl_notes.specs.Repeats.{before_at, positions, positions_behind, repeatable}
 use Rattle.csl_notes.specs.Requests.{Request as Repeating}
 use Rattle.csl_notes.specs.declared.repeats.Position.{Position}
+use Rattle.csl_notes.proofs.Stepping.{here-view, within-view}
 use Rattle.csl_runs.proofs.Stepping.{next}
 use Rattle.csl_arranging.specs.Arranged.{arranged_request}
 use Rattle.csl_arranging.specs.Order.{final_request}
-use Rattle.csl_arranging.specs.Repeating.{final_positions, repeating_request}
+use Rattle.csl_arranging.specs.Repeating.{final_positions, handed_request, repeating_request}
 use Rattle.csl_arranging.specs.Requests.{Request, request_view, requests_view}
 use Rattle.csl_arranging.specs.declared.arranged.ArrangedCite.{ArrangedCite}
 use Rattle.csl_arranging.specs.declared.request.CiteRequest.{CiteRequest}
@@ -29,6 +30,9 @@ in-both f p q = λ i. f (p i) (q i)
 
 -- requests in their final order, and as csl_notes takes them
 module _ {L : Type 0} where
+  abbrev pub seen_handed : CiteRequest (RequestedCite L) → Repeating L
+  seen_handed r = handed_request (request_view r)
+
   abbrev pub seen_final : CiteRequest (RequestedCite L) → Request (FinalCite L)
   seen_final r = final_request (request_view r)
 
@@ -60,8 +64,23 @@ module _ {A B : Type 0} (xs : List A) (ys : List B) (k : ℕ) (x : A) (y : B) (f
       let both : k < length (zip xs ys) = omega (arith, length-zip xs ys) in
       take_more (zip xs ys) k (x, y) both ∙ ap (λ p. take k (zip xs ys) ++ p ∷ []) (get_or-zip xs ys k (x, y) first second ∙ (λ i. (sym here i, sym there i)))
 
-pub all-zipped : {A B : Type 0} (xs : List A) (ys : List B) (k : ℕ) → length xs ≤ k → take k (zip xs ys) ≡ zip xs ys
-all-zipped xs ys k past = let all : length (zip xs ys) ≤ k = omega (arith, length-zip xs ys) in take_all k (zip xs ys) all
+-- what is made of each pair, of members seen as others
+module _ {X P A B Y : Type 0} (f : X → A) (g : P → B) (make : A × B → Y) (xs : List X) (ps : List P) (k : ℕ) where
+  module _ (x : X) (p : P) (first : k < length xs) (second : k < length ps) (here : x ≡ get_or xs k x) (there : p ≡ get_or ps k p) where
+    pub pairs-next : (found all : List Y) (y : Y) → found ≡ map make (take k (zip (map f xs) (map g ps))) → y ≡ make (f x, g p) → all ≡ found ++ y ∷ [] → all ≡ map make (take (k + 1) (zip (map f xs) (map g ps)))
+    pairs-next found all y so_far is pushed =
+        pushed ∙ (λ i. so_far i ++ is i ∷ [])
+        ∙ sym (ap (map make) (zip-next (map f xs) (map g ps) k (f x) (g p) (within-view f xs k first) (within-view g ps k second) (here-view f xs k x first here) (here-view g ps k p second there))
+        ∙ map-append make (take k (zip (map f xs) (map g ps))) ((f x, g p) ∷ []))
+
+    pub seen-pairs-next : {Z : Type 0} (view : Z → Y) (found all : List Z) (z : Z) → map view found ≡ map make (take k (zip (map f xs) (map g ps))) → view z ≡ make (f x, g p) → all ≡ found ++ z ∷ []
+        → map view all ≡ map make (take (k + 1) (zip (map f xs) (map g ps)))
+    seen-pairs-next view found all z so_far is pushed = pairs-next (map view found) (map view all) (view z) so_far is (ap (map view) pushed ∙ map-append view found (z ∷ []))
+
+  pub all-pairs : min (length xs) (length ps) ≤ k → (found : List Y) → found ≡ map make (take k (zip (map f xs) (map g ps))) → (seen : List B) → map g ps ≡ seen → found ≡ map make (zip (map f xs) seen)
+  all-pairs past found so_far seen is =
+      let all : length (zip (map f xs) (map g ps)) ≤ k = omega (arith, past, length-zip (map f xs) (map g ps), length-map xs f, length-map ps g) in
+      so_far ∙ ap (map make) (take_all k (zip (map f xs) (map g ps)) all ∙ ap (zip (map f xs)) is)
 
 -- each request has positions
 length-positions : {L : Type 0} (eq : L → L → Bool) (requests : List (Repeating L)) → length (positions eq requests) ≡ length requests

@@ -1,5 +1,6 @@
 -- How the cites of a request collapse, in their final order.
 use Rattle.std.specs.Prelude.{ℕ, Bool, true, false, not, ◌&&◌, List, Option, Some, None, if◌then◌else◌, is_some, map, nat_eq, slice_get, zip}
+use Rattle.std.specs.List.{enumerate_from}
 use Rattle.std.specs.Option.{is_none}
 use Rattle.csl_style_values.specs.declared.style.Collapse.{Collapse}
 use Rattle.csl_runs.specs.NumberRanges.{number_ranges}
@@ -9,14 +10,15 @@ use Rattle.csl_runs.specs.declared.collapsed.Delimiter.{Delimiter}
 use Rattle.csl_runs.specs.declared.numbers.NumberedCite.{NumberedCite}
 use Rattle.csl_runs.specs.declared.suffixes.SuffixedCite.{SuffixedCite}
 use Rattle.csl_blocks.specs.Collapsed.{collapsed}
+use Rattle.csl_blocks.specs.Parts.{parts}
 use Rattle.csl_blocks.specs.Years.{years}
 use Rattle.csl_blocks.specs.declared.collapsed.CollapsedYear.{CollapsedYear}
+use Rattle.csl_blocks.specs.declared.parts.ShownCite.{ShownCite}
 use Rattle.csl_blocks.specs.declared.years.BlockCite.{BlockCite}
 use Rattle.csl_blocks.specs.declared.years.BlockDelimiter.{BlockDelimiter}
 use Rattle.csl_blocks.specs.declared.years.BlockYear.{BlockYear}
 use Rattle.csl_blocks.specs.declared.years.YearCollapse.{YearCollapse}
 use Rattle.csl_arranging.specs.Order.{collapses_years}
-use Rattle.csl_arranging.specs.Positioned.{can_be_cut}
 use Rattle.csl_arranging.specs.declared.positioned.PositionedCite.{PositionedCite}
 use Rattle.csl_arranging.specs.declared.request.CiteStyle.{CiteStyle}
 use Rattle.csl_arranging.specs.declared.request.RequestFacts.{RequestFacts}
@@ -44,31 +46,45 @@ unranged = record { is_inner = false; is_cut = false; delimiter = Delimiter.Usua
 abbrev pub years_with_ranges : List BlockYear → List CollapsedCite → List CollapsedYear
 years_with_ranges by_blocks by_ranges = map (λ p. collapsed p.0 p.1) (zip by_blocks by_ranges)
 
+-- a cite that isn't the first of its part has the cite group delimiter before it
+abbrev pub whole_in_part : ℕ × ℕ → BlockYear
+whole_in_part p = record {
+  is_cut = false;
+  delimiter = if nat_eq p.0 p.1 then BlockDelimiter.Layout else BlockDelimiter.Group;
+}
+
 module _ {L : Type 0} where
-  abbrev pub block_cite : PositionedCite L → BlockCite
-  block_cite c = record {
-    block = c.placed.block;
-    can_be_cut = can_be_cut c;
-    has_locator = is_some c.cite.locator;
+  -- the names that a cite shows: none where its caller hides it
+  abbrev pub names_shown : RequestedCite L → Option ℕ
+  names_shown c = if c.hidden then None else c.shown.names
+
+  abbrev pub shown_cite : PositionedCite L → ShownCite
+  shown_cite c = record { block = c.placed.block; names = names_shown c.cite }
+
+  -- the places at which the parts of cites begin, one for each cite
+  abbrev pub part_places : List (PositionedCite L) → List ℕ
+  part_places cites = parts (map shown_cite cites)
+
+  -- a cite of the part that begins at a place; it can be cut if it shows names, and a date
+  abbrev pub block_cite : ℕ × PositionedCite L → BlockCite
+  block_cite p = record {
+    part = p.0;
+    can_be_cut = is_some (names_shown p.1.cite) && p.1.cite.shown.has_date;
+    has_locator = is_some p.1.cite.locator;
   }
 
-  -- a cite that isn't the first of its block has the cite group delimiter before it
-  abbrev pub whole_in_block : PositionedCite L → BlockYear
-  whole_in_block c = record {
-    is_cut = false;
-    delimiter = if nat_eq c.placed.place c.placed.block then BlockDelimiter.Layout
-        else BlockDelimiter.Group;
-  }
+  abbrev pub block_cites : List (PositionedCite L) → List BlockCite
+  block_cites cites = map block_cite (zip (part_places cites) cites)
 
   -- what blocks say of each cite
   abbrev pub block_years : CiteStyle → Option Collapse → List (PositionedCite L) → List BlockYear
   block_years style collapse cites = if collapses_years collapse
-      then years (map block_cite cites) (year_collapse style collapse)
-      else map whole_in_block cites
+      then years (block_cites cites) (year_collapse style collapse)
+      else map whole_in_part (enumerate_from 0 (part_places cites))
 
   -- a cite that may be in a range of numbers
   abbrev pub fits_range : RequestedCite L → Bool
-  fits_range c = c.shows_number && not c.hidden && is_none c.locator && is_none c.apart
+  fits_range c = c.shown.has_number && not c.hidden && is_none c.locator && is_none c.apart
 
   abbrev pub range_number : List ℕ → RequestedCite L → Option ℕ
   range_number numbers c = if fits_range c then slice_get numbers c.entry else None
@@ -83,9 +99,9 @@ module _ {L : Type 0} where
   suffixed_cite c = record {
     entry = c.cite.entry;
     suffix = c.cite.suffix;
-    text = c.cite.text;
-    names = c.cite.names;
-    can_be_cut = can_be_cut c;
+    text = c.cite.shown.text;
+    names = c.cite.shown.names;
+    has_date = c.cite.shown.has_date;
     hidden = c.cite.hidden;
     has_locator = is_some c.cite.locator;
     apart = c.cite.apart;

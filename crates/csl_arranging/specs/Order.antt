@@ -31,7 +31,7 @@ handed_order count = map alone (range_with_len 0 count)
 module _ {L : Type 0} where
   -- a hidden cite is grouped as if it had no names
   abbrev pub grouped_cite : RequestedCite L → GroupedCite
-  grouped_cite c = record { names = if c.hidden then None else c.names; apart = c.apart }
+  grouped_cite c = record { names = if c.hidden then None else c.key; apart = c.apart }
 
   abbrev pub final_order : CiteStyle → List (RequestedCite L) → List PlacedCite
   final_order style cites = if is_grouped style then block_order (map grouped_cite cites)

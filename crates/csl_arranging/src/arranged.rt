@@ -60,7 +60,7 @@ fn years_with_ranges(
 
 /// What collapsing makes of the cites of a request, in their final order, where entries have these
 /// numbers. Where some cite has a purpose nothing collapses. The cite group delimiter stands before
-/// each cite that isn't the first of its block, but where collapsing says another.
+/// each cite that isn't the first of its part of a block, but where collapsing says another.
 ///
 /// # Errors
 ///

@@ -22,7 +22,7 @@ pub(crate) fn collapses_years(collapse: Option<Collapse>) -> bool
 }
 
 /// Whether a style brings cites with the same names together.
-fn is_grouped(style: CiteStyle) -> bool
+pub(crate) fn is_grouped(style: CiteStyle) -> bool
     ensures { result ≡ is_grouped style }
 {
     style.has_group_delimiter || collapses_years(style.collapse)
@@ -33,7 +33,7 @@ fn grouped_cite<L>(cite: &RequestedCite<L>) -> GroupedCite
     ensures { result ≡ grouped_cite cite.now }
 {
     GroupedCite {
-        names: if cite.hidden { None } else { cite.names },
+        names: if cite.hidden { None } else { cite.key },
         apart: cite.apart,
     }
 }

@@ -1,6 +1,6 @@
 //! Cites in their final order, with their positions.
 ghost use Rattle.std.specs.Prelude.{◌≡◌, IfOk};
-ghost use Rattle.csl_arranging.specs.Positioned.{can_be_cut, is_different, positioned_cite, positioned_cites};
+ghost use Rattle.csl_arranging.specs.Positioned.{positioned_cite, positioned_cites};
 
 use crate::request::{FinalCite, RequestedCite};
 use csl_blocks::blocks::PlacedCite;
@@ -42,17 +42,4 @@ pub fn positioned_cites<L: Copy>(
         .zip(positions)
         .map(|(cite, position)| positioned_cite(cite, *position))
         .collect(alloc)
-}
-
-fn is_different(position: Position) -> bool
-    ensures { result ≡ is_different position }
-{
-    matches!(position, Position::Different)
-}
-
-/// Whether a cite can be cut: it doesn't repeat the one before it, and its mention shows a date.
-pub(crate) fn can_be_cut<L>(cite: &PositionedCite<L>) -> bool
-    ensures { result ≡ can_be_cut cite.now }
-{
-    is_different(cite.position) && cite.cite.shows_date
 }

@@ -4,7 +4,7 @@ ghost use Rattle.csl_runs.specs.NumberRanges.{number_ranges};
 ghost use Rattle.csl_runs.specs.SuffixStretches.{suffix_stretches};
 ghost use Rattle.csl_arranging.specs.Collapsing.{cite_ranges, fits_range, numbered_cite, range_number, suffixed_cite, unranged};
 
-use crate::positioned::{PositionedCite, can_be_cut};
+use crate::positioned::PositionedCite;
 use crate::request::RequestedCite;
 use csl_runs::collapsed::{CollapsedCite, Delimiter};
 use csl_runs::numbers::{NumberedCite, number_ranges};
@@ -16,7 +16,7 @@ use std::alloc::{AllocError, Global};
 fn fits_range<L>(cite: &RequestedCite<L>) -> bool
     ensures { result ≡ fits_range cite.now }
 {
-    cite.shows_number && !cite.hidden && cite.locator.is_none() && cite.apart.is_none()
+    cite.shown.has_number && !cite.hidden && cite.locator.is_none() && cite.apart.is_none()
 }
 
 /// The number of an entry, if it is there.
@@ -65,9 +65,9 @@ fn suffixed_cite<L>(cite: &PositionedCite<L>) -> SuffixedCite
     SuffixedCite {
         entry: cite.cite.entry,
         suffix: cite.cite.suffix,
-        text: cite.cite.text,
-        names: cite.cite.names,
-        can_be_cut: can_be_cut(cite),
+        text: cite.cite.shown.text,
+        names: cite.cite.shown.names,
+        has_date: cite.cite.shown.has_date,
         hidden: cite.cite.hidden,
         has_locator: cite.cite.locator.is_some(),
         apart: cite.cite.apart,

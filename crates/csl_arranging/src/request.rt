@@ -31,27 +31,37 @@ pub struct CiteRequest<C> {
     pub cites: Vec<C>,
 }
 
+/// What a cite shows, before it is cut.
+#[derive(Clone, Copy)]
+pub struct Shown {
+    /// Its names: a number that is the same for equal ones; none where it shows none.
+    pub names: Option<usize>,
+    /// What it reads as: a number that is the same for equal texts; none where it has no text.
+    pub text: Option<usize>,
+    /// Whether it shows the number of its entry.
+    pub has_number: bool,
+    /// Whether it shows a date.
+    pub has_date: bool,
+}
+
 /// A cite as it is asked for, and what its mention shows.
 #[derive(Clone, Copy)]
 pub struct RequestedCite<L> {
     /// The index of its entry.
     pub entry: usize,
+    /// Whether no cite before it cites its entry, in the order in which cites are handed in.
+    pub is_first: bool,
     /// Its locator, if it has one.
     pub locator: Option<L>,
     /// Whether its caller hides it.
     pub hidden: bool,
     /// Words of its caller's around it.
     pub apart: Option<Apart>,
-    /// The names of its mention, as they are shown: a number that is the same for equal ones; none
-    /// where it has none.
-    pub names: Option<usize>,
-    /// What its mention reads as: a number that is the same for equal texts; none where it has no
-    /// text.
-    pub text: Option<usize>,
-    /// Whether its mention shows the number of its entry.
-    pub shows_number: bool,
-    /// Whether its mention shows a date.
-    pub shows_date: bool,
+    /// The names by which it is brought together with others: a number that is the same for equal
+    /// ones; none where it has none.
+    pub key: Option<usize>,
+    /// What its mention shows.
+    pub shown: Shown,
     /// The suffix of its entry, if it has one.
     pub suffix: Option<Suffix>,
 }

@@ -1,3 +1,4 @@
 pub mod Placing
 pub mod Sorting
 pub mod Dating
+pub mod Parting

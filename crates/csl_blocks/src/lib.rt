@@ -4,4 +4,5 @@
 
 pub mod blocks;
 pub mod collapsed;
+pub mod parts;
 pub mod years;

@@ -1,13 +1,13 @@
-//! Years of blocks (CSL 1.0.2, cite collapsing: year, year-suffix and year-suffix-ranged).
+//! Years of parts of blocks (CSL 1.0.2, cite collapsing: year, year-suffix and year-suffix-ranged).
 ghost use Rattle.std.specs.Prelude.{◌≡◌, ◌&&◌, ◌||◌, ℕ, IfOk, OnOk, Some, nat_eq};
 ghost use Rattle.std.specs.List.{list_any};
 ghost use Rattle.csl_runs.specs.Stretches.{both};
-ghost use Rattle.csl_blocks.specs.Years.{in_one_block, is_located, year_by, years};
+ghost use Rattle.csl_blocks.specs.Years.{in_one_part, is_located, year_by, years};
 
 use indexmap::IndexSet;
 use std::alloc::{AllocError, Global};
 
-/// How a style collapses the years of blocks.
+/// How a style collapses the years of parts.
 #[derive(Clone, Copy)]
 pub struct YearCollapse {
     /// Whether it collapses by `year`; else it collapses suffixes of years too.
@@ -19,9 +19,9 @@ pub struct YearCollapse {
 /// A cite of a request whose years collapse, in the final order.
 #[derive(Clone, Copy)]
 pub struct BlockCite {
-    /// The place of the first cite of its block.
-    pub block: usize,
-    /// Whether it can be cut: it doesn't repeat the cite before it, and shows a date.
+    /// The place of the first cite of its part of a block.
+    pub part: usize,
+    /// Whether it can be cut: it shows names, and a date.
     pub can_be_cut: bool,
     pub has_locator: bool,
 }
@@ -37,7 +37,7 @@ pub enum BlockDelimiter {
     AfterCollapse,
 }
 
-/// What collapsing the years of blocks makes of a cite.
+/// What collapsing the years of parts makes of a cite.
 #[derive(Clone, Copy)]
 pub struct BlockYear {
     /// Whether its names are left out.
@@ -46,29 +46,29 @@ pub struct BlockYear {
     pub delimiter: BlockDelimiter,
 }
 
-/// What collapsing the years of blocks makes of the cites of a request. Those that aren't the
-/// first of their block leave their names out, where they can be cut. The after-collapse delimiter
-/// stands behind a block of two or more; by `year` behind each, and, if the style has one, also
-/// between the cites of a block of which some cite has a locator.
+/// What collapsing the years of parts makes of the cites of a request. Those that aren't the first
+/// of their part leave their names out, where they can be cut. The after-collapse delimiter stands
+/// behind a part of two or more; by `year` behind each, and, if the style has one, also between the
+/// cites of a part in which some cite has a locator.
 ///
 /// # Errors
 ///
 /// Where memory is refused.
-pub fn years_of_blocks(
+pub fn years_of_parts(
     alloc: Global,
     how: YearCollapse,
     cites: &[BlockCite],
 ) -> Result<Vec<BlockYear>, AllocError>
     ensures { IfOk result (λ v. v.items ≡ years cites.now how) }
 {
-    let located = located_blocks(alloc, cites)?;
+    let located = located_parts(alloc, cites)?;
     let mut before: Option<BlockCite> = None;
-    // Whether the after-collapse delimiter stands behind the block that ends before the next cite.
+    // Whether the after-collapse delimiter stands behind the part that ends before the next cite.
     let mut collapses = false;
     let mut found = Vec::with_capacity(alloc, cites.len())?;
     for cite in cites {
-        let follows = in_one_block(before, cite);
-        let is_located = located.contains(&cite.block);
+        let follows = in_one_part(before, cite);
+        let is_located = located.contains(&cite.part);
         found.push(year_by(how, cite, follows, collapses, is_located))?;
         collapses = collapses_behind(how, follows);
         before = Some(*cite);
@@ -76,17 +76,17 @@ pub fn years_of_blocks(
     Ok(found)
 }
 
-/// Whether a cite is of the block of the one before it, if there is one.
-fn in_one_block(before: Option<BlockCite>, cite: &BlockCite) -> bool
-    ensures { result ≡ both in_one_block before (Some cite.now) }
+/// Whether a cite is of the part of the one before it, if there is one.
+fn in_one_part(before: Option<BlockCite>, cite: &BlockCite) -> bool
+    ensures { result ≡ both in_one_part before (Some cite.now) }
 {
     match before {
-        Some(before) => before.block == cite.block,
+        Some(before) => before.part == cite.part,
         None => false,
     }
 }
 
-/// Whether the after-collapse delimiter stands behind a block whose last cite comes behind another
+/// Whether the after-collapse delimiter stands behind a part whose last cite comes behind another
 /// of it, or doesn't.
 fn collapses_behind(how: YearCollapse, follows: bool) -> bool
     ensures { result ≡ (how.by_year || follows) }
@@ -94,8 +94,8 @@ fn collapses_behind(how: YearCollapse, follows: bool) -> bool
     how.by_year || follows
 }
 
-/// A cite, by whether it comes behind another of its block, whether the after-collapse delimiter
-/// stands behind the block before its own, and whether some cite of its block has a locator.
+/// A cite, by whether it comes behind another of its part, whether the after-collapse delimiter
+/// stands behind the part before its own, and whether some cite of its part has a locator.
 fn year_by(
     how: YearCollapse,
     cite: &BlockCite,
@@ -121,20 +121,20 @@ fn year_by(
     }
 }
 
-/// Notes the block of a cite, if the cite has a locator.
+/// Notes the part of a cite, if the cite has a locator.
 fn add_located(located: &mut IndexSet<usize>, cite: &BlockCite) -> Result<(), AllocError>
     ensures { OnOk result ((n : ℕ) → list_any (nat_eq n) located.new.keys
         ≡ (list_any (nat_eq n) located.old.keys
-        || (cite.now.has_locator && nat_eq n cite.now.block))) }
+        || (cite.now.has_locator && nat_eq n cite.now.part))) }
 {
     if cite.has_locator {
-        located.insert(cite.block)?;
+        located.insert(cite.part)?;
     }
     Ok(())
 }
 
-/// The blocks of which some cite has a locator.
-fn located_blocks(alloc: Global, cites: &[BlockCite]) -> Result<IndexSet<usize>, AllocError>
+/// The parts in which some cite has a locator.
+fn located_parts(alloc: Global, cites: &[BlockCite]) -> Result<IndexSet<usize>, AllocError>
     ensures { IfOk result (λ s. (n : ℕ) → list_any (nat_eq n) s.keys ≡ is_located cites.now n) }
 {
     let mut located = IndexSet::new(alloc);

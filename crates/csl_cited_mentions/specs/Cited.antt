@@ -2,6 +2,8 @@
 use Rattle.std.specs.Prelude.{◌≡◌, ℕ, None, if◌then◌else◌}
 use Rattle.csl_lookup.specs.Properties.{Properties}
 use Rattle.csl_lookup.specs.PropertiesView.{properties_view}
+use Rattle.csl_lookup.specs.declared.state.IbidState.{IbidState}
+use Rattle.csl_lookup.specs.declared.state.IdentifierUsage.{IdentifierUsage}
 use Rattle.csl_lookup.specs.SourceView.{source_view}
 use Rattle.csl_mentions.specs.declared.state.MentionState.{MentionState}
 use Rattle.csl_mentions.specs.declared.written.Written.{Written}
@@ -12,7 +14,7 @@ use Rattle.csl_writers.specs.Tasks.{CiteTaskValue, cite_task}
 use Rattle.csl_writers.specs.Writing.{WriterState}
 use Rattle.csl_writers.specs.declared.cite.Cite.{Cite}
 use Rattle.csl_cited_mentions.specs.Kept.{written_mention}
-use Rattle.csl_cited_mentions.specs.ToldMeans.{with_means}
+use Rattle.csl_cited_mentions.specs.ToldMeans.{with_ibid, with_means}
 use Rattle.csl_cited_mentions.specs.declared.kept.KeptOfMention.{KeptOfMention}
 use Rattle.csl_cited_mentions.specs.declared.kept.Noted.{Noted}
 use Rattle.csl_cited_mentions.specs.declared.mention.CiteMention.{CiteMention}
@@ -32,6 +34,13 @@ module _ {E P : Type 0} where
   -- where nothing tells it apart
   abbrev pub first_task : CiteMention E P → CiteTaskValue E P
   first_task m = with_properties m (properties_view m.properties.now)
+
+  -- a mention that is written as it repeats the cite before it in this way: with the means of its
+  -- state, and this usage
+  abbrev pub task_repeated :
+      CiteTaskValue E P → MentionState → IdentifierUsage → IbidState → CiteTaskValue E P
+  task_repeated t state usage ibid =
+      record t { properties = with_ibid (with_means t.properties state usage) ibid }
 
 -- a writer writes and notes as another one, whatever was noted before
 pub record WritesOn {E P N : Type 0} (w v : WriterState E P N) : Type 0 where

@@ -2,7 +2,7 @@
 use Rattle.std.specs.Prelude.{Bool, List, is_some}
 use Rattle.csl_trees.specs.Child.{Child}
 use Rattle.csl_trees.specs.Metas.{has_meta}
-use Rattle.csl_trees.specs.Tree.{find_elem}
+use Rattle.csl_trees.specs.Tree.{find_elem, plain}
 use Rattle.csl_trees.specs.declared.elem.ElemMeta.{ElemMeta}
 use Rattle.csl_mentions.specs.Written.{written_of}
 use Rattle.csl_shown.specs.Shown.{shown_names}
@@ -20,6 +20,7 @@ written_mention cite = record {
   read = written_of cite.children cite.first_name cite.checked_disambiguate;
   kept = record {
     usage = cite.identifier_usage;
+    text = plain cite.children;
     names = shown_names cite.children;
     shows_number = shows ElemMeta.CitationNumber cite.children;
     shows_date = shows ElemMeta.Date cite.children;

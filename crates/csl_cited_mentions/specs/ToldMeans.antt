@@ -2,6 +2,7 @@
 use Rattle.std.specs.Prelude.{ℕ, None, Option}
 use Rattle.csl_lookup.specs.Properties.{Properties}
 use Rattle.csl_lookup.specs.declared.means.Means.{Means}
+use Rattle.csl_lookup.specs.declared.state.IbidState.{IbidState}
 use Rattle.csl_lookup.specs.declared.state.IdentifierUsage.{IdentifierUsage}
 use Rattle.csl_mentions.specs.declared.state.MentionState.{MentionState}
 
@@ -14,3 +15,7 @@ abbrev pub with_means : {P : Type 0} → Properties P → MentionState → Ident
 with_means p state usage = record p {
   speculative = record p.speculative { means = means_of state None; identifier_usage = usage };
 }
+
+-- properties of a cite that repeats the one before it in this way
+abbrev pub with_ibid : {P : Type 0} → Properties P → IbidState → Properties P
+with_ibid p ibid = record p { speculative = record p.speculative { ibid = ibid } }

@@ -28,7 +28,7 @@ fn is_told(state: &MentionState) -> bool
 }
 
 /// A mention as the writer writes it by these properties.
-fn written_by<T: EntryLike, P, W: CiteWriter<T, P>>(
+pub(crate) fn written_by<T: EntryLike, P, W: CiteWriter<T, P>>(
     alloc: Global,
     mention: &CiteMention<'_, '_, T, P>,
     properties: &CiteProperties<'_, P>,

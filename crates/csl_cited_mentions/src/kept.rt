@@ -3,6 +3,7 @@ ghost use Rattle.std.specs.Prelude.{◌≡◌, IfOk};
 ghost use Rattle.csl_cited_mentions.specs.Kept.{shows, written_mention};
 
 use csl_lists::seq::Seq;
+use csl_lists::text::Text;
 use csl_lookup::state::IdentifierUsage;
 use csl_mentions::written::written_of;
 use csl_shown::shown::{ShownNames, shown_names};
@@ -17,6 +18,8 @@ use std::alloc::{AllocError, Global};
 pub struct KeptOfMention {
     /// Which identifiers of its entry it had written by then.
     pub usage: IdentifierUsage,
+    /// What it reads as.
+    pub text: Text,
     /// Its first names, as they are shown.
     pub names: Option<ShownNames>,
     /// Whether it shows the number of its entry.
@@ -43,8 +46,11 @@ fn shows(tree: &ElemChildren, meta: &ElemMeta) -> bool
 fn kept_of(alloc: Global, cite: &Cite) -> Result<KeptOfMention, AllocError>
     ensures { IfOk result (λ k. k ≡ (written_mention cite.now).kept) }
 {
+    let mut text = String::new(alloc);
+    cite.children.write_plain(&mut text)?;
     Ok(KeptOfMention {
         usage: cite.identifier_usage,
+        text: Text::new(text),
         names: shown_names(alloc, &cite.children)?,
         shows_number: shows(&cite.children, &ElemMeta::CitationNumber),
         shows_date: shows(&cite.children, &ElemMeta::Date),

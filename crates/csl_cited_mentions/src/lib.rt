@@ -5,3 +5,4 @@ mod asking;
 pub mod kept;
 pub mod means;
 pub mod mention;
+pub mod repeated;

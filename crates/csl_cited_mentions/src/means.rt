@@ -1,11 +1,11 @@
 //! The means by which a mention is told from others, as a writer of cites is told them.
 ghost use Rattle.std.specs.Prelude.{◌≡◌, IfOk, None};
-ghost use Rattle.csl_cited_mentions.specs.ToldMeans.{means_of, with_means};
+ghost use Rattle.csl_cited_mentions.specs.ToldMeans.{means_of, with_ibid, with_means};
 ghost use Rattle.csl_lookup.specs.PropertiesView.{properties_view};
 
 use csl_lookup::means::Means;
 use csl_lookup::properties::{CiteProperties, SpeculativeCiteProperties};
-use csl_lookup::state::IdentifierUsage;
+use csl_lookup::state::{IbidState, IdentifierUsage};
 use csl_mentions::state::MentionState;
 use csl_values::names::NameDisambiguationProperties;
 use std::alloc::AllocError;
@@ -58,4 +58,20 @@ pub(crate) fn with_means<'p, P: Drop>(
             identifier_usage: usage,
         },
     })
+}
+
+/// The properties of a mention that repeats the cite before it in this way.
+pub(crate) fn with_ibid<'p, P>(
+    properties: CiteProperties<'p, P>,
+    ibid: IbidState,
+) -> CiteProperties<'p, P>
+    ensures { properties_view result ≡ with_ibid (properties_view properties.entry) ibid }
+{
+    CiteProperties {
+        certain: properties.certain,
+        speculative: SpeculativeCiteProperties {
+            ibid,
+            ..properties.speculative
+        },
+    }
 }

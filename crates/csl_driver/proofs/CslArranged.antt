@@ -19,8 +19,9 @@ use Rattle.csl_told_cites.specs.declared.mentions.ToldMention.{ToldMention}
 use Rattle.csl_writers.specs.Writing.{Writing}
 use Rattle.csl_driver.specs.Answer.{Job}
 use Rattle.csl_driver.specs.AreCitesOf.{AreCitesOf}
-use Rattle.csl_driver.specs.CslAnswer.{cite_notes, cites_in_order, known, ordered, ordered_by, same_locator}
+use Rattle.csl_driver.specs.CslAnswer.{cite_notes, cites_in_order, known, ordered, same_locator}
 use Rattle.csl_driver.specs.CslParts.{AreToldApart}
+use Rattle.csl_driver.proofs.CslCounts.{ordered-once}
 use Rattle.csl_driver.proofs.CslLocated.{arranged-seen, seen_in_order, told-seen}
 use Rattle.csl_driver.proofs.CslRepeated.{cites-seen}
 use Rattle.csl_driver.proofs.CslStanding.{told-stand}
@@ -38,31 +39,24 @@ module _ {E P : Type 0} (eq : E → E → Bool) (job : Job E P) where
   known-then : (writing : Writing E P) (t : Told KeptOfMention) → AreToldApart eq job writing t → known_of t ≡ known eq job writing
   known-then writing t apart = λ i. record { states = apart.states i; mentions = apart.mentions i; suffixes = apart.suffixes i; numbers = [] }
 
-  -- the cites before they are arranged, where this is known
-  abbrev pub before_by : ToldValue → List (CiteRender E P)
-  before_by told = told_cites told job.requests (cite_notes eq job) (ordered_by eq job told.mentions told.suffixes)
-
-  -- they are those of the answer where this is what tells mentions apart
-  pub ordered-then : (writing : Writing E P) (t : Told KeptOfMention) → AreToldApart eq job writing t → ordered_by eq job (known_of t).mentions (known_of t).suffixes ≡ ordered eq job writing
-  ordered-then writing t apart = ap (λ (told : ToldValue). ordered_by eq job told.mentions told.suffixes) (known-then writing t apart)
-
-  pub before-then : (writing : Writing E P) (t : Told KeptOfMention) → AreToldApart eq job writing t → before_by (known_of t) ≡ cites_in_order eq job writing
-  before-then writing t apart = ap before_by (known-then writing t apart)
-
-  module _ {L : Type 0} (f : L → LocatorValue P) (t : Told KeptOfMention) (finals : List (Arranged (FinalCite L))) (in_order : map (seen_in_order f) finals ≡ ordered_by eq job (known_of t).mentions (known_of t).suffixes) where
-    pub before-lent : (states : List MentionState) (mentions : List ToldMention) (suffixes : List (Option ℕ)) (notes : List (List CiteNotes)) (given : List (Arranged (FinalCite L))) (cites : List (CiteRender E P))
-        → states ≡ (known_of t).states → mentions ≡ (known_of t).mentions → suffixes ≡ (known_of t).suffixes → notes ≡ cite_notes eq job → given ≡ finals
-        → cites ≡ told_cites (record { states = states; mentions = mentions; suffixes = suffixes; numbers = [] }) job.requests notes given → cites ≡ before_by (known_of t)
-    before-lent states mentions suffixes notes given cites states_are mentions_are suffixes_are noted are made =
-        made
-        ∙ (λ i. told_cites (record { states = states_are i; mentions = mentions_are i; suffixes = suffixes_are i; numbers = [] }) job.requests (noted i) (are i))
-        ∙ sym (told-seen f (known_of t) job.requests (cite_notes eq job) finals) ∙ ap (told_cites (known_of t) job.requests (cite_notes eq job)) in_order
+  -- cites of the order whose locators are lent are those of the answer, before they are arranged
+  pub before-lent : {L : Type 0} (f : L → LocatorValue P) (writing : Writing E P) (payload_eq : P → P → Bool) (t : Told KeptOfMention) → AreToldApart eq job writing t
+      → (finals : List (Arranged (FinalCite L))) → map (seen_in_order f) finals ≡ ordered eq job writing payload_eq
+      → (states : List MentionState) (mentions : List ToldMention) (suffixes : List (Option ℕ)) (notes : List (List CiteNotes)) (given : List (Arranged (FinalCite L))) (cites : List (CiteRender E P))
+      → states ≡ (known_of t).states → mentions ≡ (known_of t).mentions → suffixes ≡ (known_of t).suffixes → notes ≡ cite_notes eq job → given ≡ finals
+      → cites ≡ told_cites (record { states = states; mentions = mentions; suffixes = suffixes; numbers = [] }) job.requests notes given → cites ≡ cites_in_order eq job writing payload_eq
+  before-lent f writing payload_eq t apart finals in_order states mentions suffixes notes given cites states_are mentions_are suffixes_are noted are made =
+      made
+      ∙ (λ i. told_cites (record { states = states_are i; mentions = mentions_are i; suffixes = suffixes_are i; numbers = [] }) job.requests (noted i) (are i))
+      ∙ sym (told-seen f (known_of t) job.requests (cite_notes eq job) finals)
+      ∙ (λ i. told_cites (known-then writing t apart i) job.requests (cite_notes eq job) (in_order i))
 
   -- they are cites of the requests
-  pub before-stand : IsEquivalence eq → (table : Table E) → table ≡ table_of eq job.requests → (told : ToldValue) (cites : List (CiteRender E P)) → cites ≡ before_by told
-      → AreCitesOf eq table job.requests cites
-  before-stand laws table is told cites before =
-      subst (AreCitesOf eq table job.requests) (sym before) (told-stand eq job laws table is told told.mentions told.suffixes)
+  pub before-stand : IsEquivalence eq → (table : Table E) → table ≡ table_of eq job.requests → (writing : Writing E P) (payload_eq : P → P → Bool) (cites : List (CiteRender E P))
+      → cites ≡ cites_in_order eq job writing payload_eq → AreCitesOf eq table job.requests cites
+  before-stand laws table is writing payload_eq cites before =
+      subst (AreCitesOf eq table job.requests) (sym before)
+      (told-stand eq job laws table is (known eq job writing) (ordered eq job writing payload_eq) (ordered-once eq job writing payload_eq))
 
 -- cites are arranged alike where their locators are lent
 pub arranged-lent : {E P L : Type 0} (f : L → LocatorValue P) (locator_eq : L → L → Bool) (payload_eq : P → P → Bool) → ((a b : L) → locator_eq a b ≡ same_locator payload_eq (f a) (f b)) → (numbers : List ℕ)

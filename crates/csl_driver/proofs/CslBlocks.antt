@@ -11,6 +11,7 @@ use Rattle.csl_arranging.specs.Requests.{Request as Arranged}
 use Rattle.csl_arranging.specs.declared.request.CiteStyle.{CiteStyle}
 use Rattle.csl_arranging.specs.declared.request.FinalCite.{FinalCite}
 use Rattle.csl_arranging.specs.declared.request.RequestedCite.{RequestedCite as PlainCite}
+use Rattle.csl_arranging.specs.declared.request.Shown.{Shown}
 use Rattle.csl_blocks.specs.Blocks.{block, block_order, placed_cites}
 use Rattle.csl_blocks.specs.declared.blocks.GroupedCite.{GroupedCite}
 use Rattle.csl_blocks.specs.declared.blocks.PlacedCite.{PlacedCite}
@@ -24,9 +25,9 @@ use Rattle.csl_notes.specs.declared.notes.CiteNotes.{CiteNotes}
 use Rattle.csl_passes.specs.Renders.{CiteRender}
 use Rattle.csl_passes.specs.Request.{RequestedCite, Request}
 use Rattle.csl_requested_mentions.specs.Handed.{cite_counts}
+use Rattle.csl_tables.specs.Steps.{all_changed}
 use Rattle.csl_told_cites.specs.Cites.{ToldValue, told_at, told_cite, told_cites, told_request}
-use Rattle.csl_told_cites.specs.Requests.{plain_request, plain_requests}
-use Rattle.csl_told_cites.specs.declared.mentions.ToldMention.{ToldMention}
+use Rattle.csl_told_cites.specs.Repeats.{cites_with_shown, with_shown}
 use Rattle.csl_told_laws.proofs.Placing.{ends-there}
 
 -- ---- a part of a list of parts
@@ -95,6 +96,31 @@ module _ {L : Type 0} (style : CiteStyle) (cites : List (PlainCite L)) where
 
 -- ---- of all requests
 
+module _ {L : Type 0} where
+  -- cites stand in the final order of a request
+  abbrev pub IsPlaced : Arranged (PlainCite L) → Arranged (FinalCite L) → Type 0
+  IsPlaced plain f = map handed_at f.cites ≡ map place_of (final_order plain.facts.style plain.cites)
+
+  abbrev pub ArePlaced : List (Arranged (PlainCite L)) → List (Arranged (FinalCite L)) → Type 0
+  ArePlaced = AllZip IsPlaced
+
+  pub finals-placed : (plains : List (Arranged (PlainCite L))) → ArePlaced plains (map final_request plains)
+  finals-placed [] = tt
+  finals-placed (plain ∷ plains) = (places-ordered plain.facts.style plain.cites, finals-placed plains)
+
+  -- whatever they show
+  pub places-stay : (shown : List (Option Shown)) (fs : List (FinalCite L)) → map handed_at (all_changed with_shown shown fs) ≡ map handed_at fs
+  places-stay [] fs = refl
+  places-stay (s ∷ shown) [] = refl
+  places-stay (None ∷ shown) (f ∷ fs) = ap (λ l. handed_at f ∷ l) (places-stay shown fs)
+  places-stay (Some s ∷ shown) (f ∷ fs) = ap (λ l. handed_at f ∷ l) (places-stay shown fs)
+
+  pub shown-placed : (shown : List (List (Option Shown))) (plains : List (Arranged (PlainCite L))) (fs : List (Arranged (FinalCite L))) → ArePlaced plains fs → ArePlaced plains (all_changed cites_with_shown shown fs)
+  shown-placed [] plains fs h = h
+  shown-placed (s ∷ shown) plains [] h = h
+  shown-placed (s ∷ shown) [] (f ∷ fs) h = absurd h
+  shown-placed (s ∷ shown) (plain ∷ plains) (f ∷ fs) h = (places-stay s f.cites ∙ h.0, shown-placed shown plains fs h.1)
+
 module _ {E P : Type 0} (told : ToldValue) where
   places-told : (r : Request E P) (notes : List CiteNotes) → length notes ≡ length r.cites → (fs : List (FinalCite (LocatorValue P))) → All (λ f. handed_at f < length r.cites) fs
       → places_of (filter_map (told_at told r notes) fs) ≡ map handed_at fs
@@ -107,24 +133,25 @@ module _ {E P : Type 0} (told : ToldValue) where
           absurd (omega (arith, ends-there (zip r.cites notes) f.placed.place e, All-head (λ f. handed_at f < length r.cites) f fs h, first-of-both r.cites notes long))
       by (Some p) e more = ap (λ l. f.placed.place ∷ l) more
 
-  module _ (mentions : List ToldMention) (suffixes : List (Option ℕ)) (eq : E → E → Bool) (listed : List E) where
-    abbrev InBlocks : Arranged (PlainCite (LocatorValue P)) → CiteRender E P → Type 0
-    InBlocks r ordered = StandInBlocks (is_grouped r.facts.style) (map grouped_cite r.cites) (places_of ordered.items)
+  abbrev InBlocks : Arranged (PlainCite (LocatorValue P)) → CiteRender E P → Type 0
+  InBlocks r ordered = StandInBlocks (is_grouped r.facts.style) (map grouped_cite r.cites) (places_of ordered.items)
 
-    row-in-blocks : (r : Request E P) (n : List CiteNotes) → length n ≡ length r.cites
-        → let plain = plain_request mentions suffixes eq listed r n in IsWhole r (final_request plain) → InBlocks plain (told_request told r n (final_request plain).cites)
-    row-in-blocks r n long whole =
-        let plain = plain_request mentions suffixes eq listed r n in
-        let fs = (final_request plain).cites in
-        let places : places_of (filter_map (told_at told r n) fs) ≡ map place_of (final_order plain.facts.style plain.cites) =
-        places-told r n long fs (handed-within (length r.cites) fs whole) ∙ places-ordered plain.facts.style plain.cites in
-        subst (StandInBlocks (is_grouped plain.facts.style) (map grouped_cite plain.cites)) (sym places) (order-in-blocks plain.facts.style plain.cites)
+  row-in-blocks : (r : Request E P) (n : List CiteNotes) (plain : Arranged (PlainCite (LocatorValue P))) (f : Arranged (FinalCite (LocatorValue P))) → length n ≡ length r.cites → IsWhole r f → IsPlaced plain f
+      → InBlocks plain (told_request told r n f.cites)
+  row-in-blocks r n plain f long whole placed =
+      let places : places_of (filter_map (told_at told r n) f.cites) ≡ map place_of (final_order plain.facts.style plain.cites) =
+      places-told r n long f.cites (handed-within (length r.cites) f.cites whole) ∙ placed in
+      subst (StandInBlocks (is_grouped plain.facts.style) (map grouped_cite plain.cites)) (sym places) (order-in-blocks plain.facts.style plain.cites)
 
-    pub rows-in-blocks : (rs : List (Request E P)) (ns : List (List CiteNotes)) → map length ns ≡ cite_counts rs
-        → let plains = plain_requests mentions suffixes eq listed rs ns in AreWhole rs (map final_request plains) → AllZip InBlocks plains (told_cites told rs ns (map final_request plains))
-    rows-in-blocks [] ns h w = tt
-    rows-in-blocks (r ∷ rs) [] h w = tt
-    rows-in-blocks (r ∷ rs) (n ∷ ns) h w =
-        let first : length n ≡ length r.cites = cc in
-        let later : map length ns ≡ cite_counts rs = cc in
-        (row-in-blocks r n first w.0, rows-in-blocks rs ns later w.1)
+  pub rows-in-blocks : (rs : List (Request E P)) (ns : List (List CiteNotes)) (plains : List (Arranged (PlainCite (LocatorValue P)))) (fs : List (Arranged (FinalCite (LocatorValue P)))) → map length ns ≡ cite_counts rs
+      → AreWhole rs fs → ArePlaced plains fs → AllZip InBlocks plains (told_cites told rs ns fs)
+  rows-in-blocks [] ns [] fs h w p = tt
+  rows-in-blocks [] ns (plain ∷ plains) [] h w p = absurd p
+  rows-in-blocks [] ns (plain ∷ plains) (f ∷ fs) h w p = absurd w
+  rows-in-blocks (r ∷ rs) ns plains [] h w p = absurd w
+  rows-in-blocks (r ∷ rs) ns [] (f ∷ fs) h w p = absurd p
+  rows-in-blocks (r ∷ rs) [] (plain ∷ plains) (f ∷ fs) h w p = cc
+  rows-in-blocks (r ∷ rs) (n ∷ ns) (plain ∷ plains) (f ∷ fs) h w p =
+      let first : length n ≡ length r.cites = cc in
+      let later : map length ns ≡ cite_counts rs = cc in
+      (row-in-blocks r n plain f first w.0 p.0, rows-in-blocks rs ns plains fs later w.1 p.1)

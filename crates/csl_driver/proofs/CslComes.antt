@@ -7,6 +7,7 @@ use Rattle.std.specs.List.Sorted.{IsPermutation}
 use Rattle.std.proofs.Math.ListN.{length-map}
 use Rattle.std.proofs.lemmas.List.Elements.{All-weaker}
 use Rattle.csl_arranging.specs.Arranged.{arranged_cites}
+use Rattle.csl_arranging.specs.Order.{final_request}
 use Rattle.csl_arranging.specs.Repeating.{final_positions, repeating_request}
 use Rattle.csl_arranging.specs.Requests.{Request as Arranged}
 use Rattle.csl_arranging.specs.declared.request.FinalCite.{FinalCite}
@@ -16,14 +17,14 @@ use Rattle.csl_cited_mentions.specs.ToldMeans.{means_of}
 use Rattle.csl_driver.specs.Answer.{Job, numbered_finally, used_order}
 use Rattle.csl_driver.specs.AnswerLaws.{AreInOrder, HasOwnCites, HaveNumbersOnce}
 use Rattle.csl_driver.specs.CslAccount.{entries_told, every_second}
-use Rattle.csl_driver.specs.CslAnswer.{cite_notes, cites_arranged, cites_in_order, entry_suffixes, item_means, known, listed, listed_cites, numbers_in_the_end, ordered, read, same_locator, shown_mentions, states}
+use Rattle.csl_driver.specs.CslAnswer.{cite_notes, cites_arranged, cites_in_order, entry_suffixes, item_means, keyed, known, listed, listed_cites, numbers_in_the_end, ordered, read, repeated_cites, repeated_firsts, same_locator, shown_mentions, shown_repeated, states}
 use Rattle.csl_driver.specs.CslByEntry.{entries_had, means_had, state_of}
 use Rattle.csl_driver.specs.CslCitations.{ComeArranged, IsListedByMeans, IsNumbered, IsToldWhole}
 use Rattle.csl_driver.specs.CslLaws.{KeepsCslLaws, NumbersEntries}
 use Rattle.csl_driver.specs.CslPromised.{IsExactlyCsl}
 use Rattle.csl_driver.specs.ShownEntries.{entries_shown}
 use Rattle.csl_driver.specs.declared.csl_account.CslAccount.{CslAccount}
-use Rattle.csl_driver.proofs.CslBlocks.{rows-in-blocks}
+use Rattle.csl_driver.proofs.CslBlocks.{ArePlaced, finals-placed, rows-in-blocks, shown-placed}
 use Rattle.csl_driver.proofs.CslCounts.{notes-counted, ordered-once}
 use Rattle.csl_driver.proofs.CslEntries.{equal-told, numbered-by-order, told-count}
 use Rattle.csl_driver.proofs.CslKept.{has-costs, has-entries, tells-apart}
@@ -32,7 +33,7 @@ use Rattle.csl_driver.proofs.CslOnce.{AreWhole, IsWhole, rows-own}
 use Rattle.csl_driver.proofs.CslPairs.{firsts-count, laters-count, turns}
 use Rattle.csl_driver.proofs.CslReadBack.{rows-back}
 use Rattle.csl_driver.proofs.CslShown.{citations-seen}
-use Rattle.csl_driver.proofs.CslTold.{HasMeans, HasNumber, all-arranged, equal-places, means-arranged, numbers-arranged, turn-of}
+use Rattle.csl_driver.proofs.CslTold.{AreStanding, HasMeans, HasNumber, all-arranged, equal-places, keyed-stand, means-arranged, numbers-arranged, shown-stand, turn-of}
 use Rattle.csl_driver.proofs.KeptLaws.{by-final-order, numbered-once}
 use Rattle.csl_entries.specs.Entries.{bibliography_order, distinct, is_in, number, place}
 use Rattle.csl_entries.proofs.Distinct.{is_in-distinct}
@@ -81,10 +82,10 @@ module _ {E P : Type 0} (eq : E → E → Bool) (laws : IsEquivalence eq) (reque
 
 module _ {E P : Type 0} (eq : E → E → Bool) (laws : IsEquivalence eq) (payload_eq : P → P → Bool) (writing : Writing E P) (job : Job E P) where
   abbrev finals : List (Arranged (FinalCite (LocatorValue P)))
-  finals = ordered eq job writing
+  finals = ordered eq job writing payload_eq
 
   abbrev cites : List (CiteRender E P)
-  cites = cites_in_order eq job writing
+  cites = cites_in_order eq job writing payload_eq
 
   abbrev drawn : List (CiteRender E P)
   drawn = cites_arranged eq job writing payload_eq
@@ -93,7 +94,20 @@ module _ {E P : Type 0} (eq : E → E → Bool) (laws : IsEquivalence eq) (paylo
   notes-long = notes-counted eq job
 
   whole : AreWhole job.requests finals
-  whole = ordered-once eq job (shown_mentions eq job writing) (entry_suffixes eq job writing)
+  whole = ordered-once eq job writing payload_eq
+
+  -- they stand at their places, whatever they show
+  standing : AreStanding eq (listed eq job) (known eq job writing) (shown_mentions eq job writing) (entry_suffixes eq job writing) job.requests (cite_notes eq job) finals
+  standing =
+      let stand = keyed-stand eq (listed eq job) (known eq job writing) (shown_mentions eq job writing) (entry_suffixes eq job writing) (shown_repeated eq job writing (repeated_firsts eq job writing payload_eq)) job.requests (cite_notes eq job) in
+      shown-stand eq (listed eq job) (known eq job writing) (shown_mentions eq job writing) (entry_suffixes eq job writing) (map (shown_repeated eq job writing) (repeated_cites eq job writing payload_eq)) job.requests (cite_notes eq job)
+      (map final_request (keyed eq job writing payload_eq)) stand
+
+  -- and in the final order of their requests
+  placed : ArePlaced (keyed eq job writing payload_eq) finals
+  placed =
+      shown-placed (map (shown_repeated eq job writing) (repeated_cites eq job writing payload_eq)) (keyed eq job writing payload_eq) (map final_request (keyed eq job writing payload_eq))
+      (finals-placed (keyed eq job writing payload_eq))
 
   requests-are : map (λ c. c.request) cites ≡ job.requests
   requests-are =
@@ -128,33 +142,34 @@ module _ {E P : Type 0} (eq : E → E → Bool) (laws : IsEquivalence eq) (paylo
         ∙ ap (λ o. unwrap_or o untold) (turn-of first later long k is_first)
         ∙ (λ i. unwrap_or (slice_get (cond is_first (sym is.first_mentions i) (sym is.later_mentions i)) k) untold)
 
-    told-whole : All (IsToldWhole eq writing job r.1) (items_finally drawn)
+    told-whole : All (IsToldWhole eq payload_eq writing job r.1) (items_finally drawn)
     told-whole =
-        All-weaker (HasMeans eq (listed eq job) (known eq job writing)) (IsToldWhole eq writing job r.1)
+        All-weaker (HasMeans eq (listed eq job) (known eq job writing)) (IsToldWhole eq payload_eq writing job r.1)
         (λ i h. h ∙ (λ j. means_of (same-state (place eq i.entry (listed eq job)) i.properties.certain.is_first j) (suffix_number (sym is.suffixes j) (place eq i.entry (listed eq job))))
         ∙ ap (λ k. means_of (state_of r.1 k i.properties.certain.is_first) (suffix_number r.1.suffixes.items k)) (same-place i.entry))
         (items_finally drawn)
-        (means-arranged eq (listed eq job) (known eq job writing) (shown_mentions eq job writing) (entry_suffixes eq job writing) job.requests (cite_notes eq job)
-        (numbers_in_the_end eq job writing) (arranged_cites (same_locator payload_eq) (numbers_in_the_end eq job writing) finals))
+        (means-arranged eq (listed eq job) (known eq job writing) (shown_mentions eq job writing) (entry_suffixes eq job writing) job.requests (cite_notes eq job) finals
+        (numbers_in_the_end eq job writing payload_eq) (arranged_cites (same_locator payload_eq) (numbers_in_the_end eq job writing payload_eq) finals) standing)
 
     numbered-whole : All (IsNumbered eq r.1) (items_finally drawn)
     numbered-whole =
-        All-weaker (HasNumber eq (listed eq job) (known eq job writing) (numbers_in_the_end eq job writing)) (IsNumbered eq r.1)
+        All-weaker (HasNumber eq (listed eq job) (known eq job writing) (numbers_in_the_end eq job writing payload_eq)) (IsNumbered eq r.1)
         (λ i h. h ∙ (λ j. slice_index (sym is.numbers j) (same-place i.entry j)))
         (items_finally drawn)
-        (numbers-arranged eq (listed eq job) (known eq job writing) (shown_mentions eq job writing) (entry_suffixes eq job writing) job.requests (cite_notes eq job)
-        (numbers_in_the_end eq job writing) (arranged_cites (same_locator payload_eq) (numbers_in_the_end eq job writing) finals) (arranged-long (numbers_in_the_end eq job writing) (same_locator payload_eq) finals))
+        (numbers-arranged eq (listed eq job) (known eq job writing) (shown_mentions eq job writing) (entry_suffixes eq job writing) job.requests (cite_notes eq job) finals
+        (numbers_in_the_end eq job writing payload_eq) (arranged_cites (same_locator payload_eq) (numbers_in_the_end eq job writing payload_eq) finals) standing
+        (arranged-long (numbers_in_the_end eq job writing payload_eq) (same_locator payload_eq) finals))
 
-    abbrev come : ComeArranged eq writing job r.1 r.0.citations
+    abbrev come : ComeArranged eq payload_eq writing job r.1 r.0.citations
     come = record {
       ordered = cites;
       arranged = drawn;
       asked_for = requests-are;
       own_cites = own;
-      blocks = rows-in-blocks (known eq job writing) (shown_mentions eq job writing) (entry_suffixes eq job writing) eq (listed eq job) job.requests (cite_notes eq job) notes-long whole;
-      arranges = all-arranged (numbers_in_the_end eq job writing) finals (arranged_cites (same_locator payload_eq) (numbers_in_the_end eq job writing) finals) cites;
-      read_back = rows-back eq (listed eq job) (known eq job writing) (shown_mentions eq job writing) (numbers_in_the_end eq job writing) job.requests (cite_notes eq job)
-          (final_positions (same_locator payload_eq) finals) (positions-long (numbers_in_the_end eq job writing) (same_locator payload_eq) (map repeating_request finals) 0 finals);
+      blocks = rows-in-blocks (known eq job writing) job.requests (cite_notes eq job) (keyed eq job writing payload_eq) finals notes-long whole placed;
+      arranges = all-arranged (numbers_in_the_end eq job writing payload_eq) finals (arranged_cites (same_locator payload_eq) (numbers_in_the_end eq job writing payload_eq) finals) cites;
+      read_back = rows-back eq (listed eq job) (known eq job writing) (shown_mentions eq job writing) (numbers_in_the_end eq job writing payload_eq) job.requests (cite_notes eq job) finals
+          (final_positions (same_locator payload_eq) finals) standing (positions-long (numbers_in_the_end eq job writing payload_eq) (same_locator payload_eq) (map repeating_request finals) 0 finals);
       told_whole = told-whole;
       numbered = numbered-whole;
       made = ap (λ (a : Rendered). a.citations) is.ok;
@@ -180,13 +195,13 @@ module _ {E P : Type 0} (eq : E → E → Bool) (laws : IsEquivalence eq) (paylo
     means-are : (k : ℕ) → item_means (states eq job writing) (entry_suffixes eq job writing) k ≡ means_had r.1 k
     means-are k = λ i. record { choose = (same-state k false i).chosen; suffix = suffix_number (sym is.suffixes i) k }
 
-    by-means : IsListedByMeans eq writing job r.1 drawn r.0
+    by-means : IsListedByMeans eq payload_eq writing job r.1 drawn r.0
     by-means =
         ap (λ (a : Rendered). a.bibliography) is.ok
         ∙ (λ i. option_map (λ b. bibliography_by_means writing (wanted_source job.wanted) b (listed_cites eq (λ k. means-are k i) drawn (listed eq job))) job.wanted.style.bibliography)
 
     -- what is exactly the answer keeps the laws
-    pub keeps-csl-laws : KeepsCslLaws eq job writing r
+    pub keeps-csl-laws : KeepsCslLaws eq job writing payload_eq r
     keeps-csl-laws = record {
       entries = has-entries eq laws payload_eq writing job r is;
       telling = tells-apart eq laws payload_eq writing job r is;

@@ -12,8 +12,10 @@ use Rattle.csl_driver.specs.CslAnswer.{entry_suffixes, listed, mentions, read, s
 use Rattle.csl_driver.specs.CslByEntry.{entries_had, states_had}
 use Rattle.csl_driver.specs.CslLaws.{HasCitedEntries, HasCosts, TellsWorksApart, laters_had}
 use Rattle.csl_driver.specs.CslPromised.{IsExactlyCsl}
+use Rattle.csl_driver.specs.CslTasks.{repeat_cite_tasks}
 use Rattle.csl_driver.specs.declared.csl_account.CslAccount.{CslAccount}
 use Rattle.csl_driver.proofs.CslEntries.{equal-told, homes-told, told-cited, told-count, told-once}
+use Rattle.csl_driver.proofs.CslFew.{repeats-few}
 use Rattle.csl_driver.proofs.CslPairs.{by_turns, firsts-count, in-pairs, laters-are, laters-count, turns}
 use Rattle.csl_entries.specs.Entries.{is_in}
 use Rattle.csl_entries.specs.Laws.{NoTwoEqual}
@@ -34,8 +36,9 @@ use Rattle.csl_writers.specs.Tasks.{CiteTaskValue}
 use Rattle.csl_writers.specs.Writing.{Writing}
 
 -- counts that were counted otherwise
-tasks-and-others : (tasks twice n named chosen cites listed others : ℕ) → tasks ≡ twice + named + chosen → twice ≡ 2 * n → listed ≡ others → tasks + cites + listed ≡ 2 * n + named + chosen + cites + others
-tasks-and-others tasks twice n named chosen cites listed others h t l = omega (arith, h, t, l)
+tasks-and-others : (tasks twice n named chosen repeats cites listed others : ℕ) → tasks ≡ twice + named + chosen → twice ≡ 2 * n → listed ≡ others
+    → tasks + repeats + cites + listed ≡ 2 * n + named + chosen + repeats + cites + others
+tasks-and-others tasks twice n named chosen repeats cites listed others h t l = omega (arith, h, t, l)
 
 within-six : (tasks twice n named chosen : ℕ) → tasks ≡ twice + named + chosen → twice ≡ 2 * n → tasks ≤ 6 * n → 2 * n + named + chosen ≤ 6 * n
 within-six tasks twice n named chosen h t l = omega (arith, h, t, l)
@@ -109,9 +112,13 @@ module _ {E P : Type 0} (eq : E → E → Bool) (laws : IsEquivalence eq) (paylo
   has-costs =
       let named = length (filter has_names (states_had r.1)) in
       let chosen = length (filter (λ (s : MentionState). s.chosen) (states_had r.1)) in
+      let repeats = length (repeat_cite_tasks eq job writing payload_eq) in
       record {
+        repeats = repeats;
+        few_repeats = repeats-few eq job writing payload_eq;
         renders = is.renders
-            ∙ ap (λ n. min n (2 ^ 128 - 1)) (tasks-and-others (length (all_tasks write subjects)) (length subjects) (length (entries_had r.1)) named chosen (length (cites_of job.requests)) _ _ telling.bounds.tasks twice listed-count);
+            ∙ ap (λ n. min n (2 ^ 128 - 1))
+            (tasks-and-others (length (all_tasks write subjects)) (length subjects) (length (entries_had r.1)) named chosen repeats (length (cites_of job.requests)) _ _ telling.bounds.tasks twice listed-count);
         six_an_entry = within-six (length (all_tasks write subjects)) (length subjects) (length (entries_had r.1)) named chosen telling.bounds.tasks twice telling.bounds.six_an_entry;
         rounds = is.rounds ∙ (λ i. rounds_of (sym states-are i) (sym is.suffixes i));
         three_rounds = subst (λ n. n ≤ 3) (sym is.rounds) (three-at-most (states eq job writing) (entry_suffixes eq job writing));

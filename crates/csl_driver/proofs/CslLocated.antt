@@ -11,6 +11,7 @@ use Rattle.csl_arranging.specs.declared.arranged.ArrangedCite.{ArrangedCite}
 use Rattle.csl_arranging.specs.declared.request.CiteStyle.{CiteStyle}
 use Rattle.csl_arranging.specs.declared.request.FinalCite.{FinalCite}
 use Rattle.csl_arranging.specs.declared.request.RequestedCite.{RequestedCite as PlainCite}
+use Rattle.csl_arranging.specs.declared.request.Shown.{Shown}
 use Rattle.csl_blocks.specs.Blocks.{block_order}
 use Rattle.csl_blocks.specs.declared.blocks.PlacedCite.{PlacedCite}
 use Rattle.csl_notes.specs.declared.notes.CiteNotes.{CiteNotes}
@@ -20,19 +21,19 @@ use Rattle.csl_style_values.specs.Style.{CitationValue}
 use Rattle.csl_tables.specs.Steps.{all_changed}
 use Rattle.csl_told_cites.specs.Arranging.{arranged_by, arranged_finally}
 use Rattle.csl_told_cites.specs.Cites.{ToldValue, told_at, told_cites}
+use Rattle.csl_told_cites.specs.Repeats.{cites_with_shown, with_first_key, with_key, with_shown}
 
 module _ {L M : Type 0} (f : L → M) where
   -- a cite with another locator
   abbrev pub seen : PlainCite L → PlainCite M
   seen c = record {
     entry = c.entry;
+    is_first = c.is_first;
     locator = option_map f c.locator;
     hidden = c.hidden;
     apart = c.apart;
-    names = c.names;
-    text = c.text;
-    shows_number = c.shows_number;
-    shows_date = c.shows_date;
+    key = c.key;
+    shown = c.shown;
     suffix = c.suffix;
   }
 
@@ -66,6 +67,35 @@ module _ {L M : Type 0} (f : L → M) where
   final-seen (r ∷ rs) =
       let own = in-order r.cites (final_order r.facts.style r.cites) ∙ sym (ap (cites_in_order (map seen r.cites)) (same-order r.facts.style r.cites)) in
       λ i. record { facts = r.facts; cites = own i } ∷ final-seen rs i
+
+  -- whatever they show, and by whatever first cites are brought together
+  key-row : (names : Option ℕ) (cites : List (PlainCite L)) → map seen (with_key names cites) ≡ with_key names (map seen cites)
+  key-row names [] = refl
+  key-row names (c ∷ cites) = refl
+
+  key-seen : (key : Option Shown) (r : Arranged (PlainCite L)) → seen_request (with_first_key key r) ≡ with_first_key key (seen_request r)
+  key-seen None r = refl
+  key-seen (Some s) r = ap (λ cs. record { facts = r.facts; cites = cs }) (key-row s.names r.cites)
+
+  pub keyed-seen : (keys : List (Option Shown)) (rs : List (Arranged (PlainCite L))) → map seen_request (all_changed with_first_key keys rs) ≡ all_changed with_first_key keys (map seen_request rs)
+  keyed-seen [] rs = refl
+  keyed-seen (key ∷ keys) [] = refl
+  keyed-seen (key ∷ keys) (r ∷ rs) = λ i. key-seen key r i ∷ keyed-seen keys rs i
+
+  one-shown : (s : Option Shown) (c : FinalCite L) → seen_finally (with_shown s c) ≡ with_shown s (seen_finally c)
+  one-shown None c = refl
+  one-shown (Some s) c = refl
+
+  row-shown : (shown : List (Option Shown)) (cites : List (FinalCite L)) → map seen_finally (all_changed with_shown shown cites) ≡ all_changed with_shown shown (map seen_finally cites)
+  row-shown [] cites = refl
+  row-shown (s ∷ shown) [] = refl
+  row-shown (s ∷ shown) (c ∷ cites) = λ i. one-shown s c i ∷ row-shown shown cites i
+
+  pub shown-seen : (shown : List (List (Option Shown))) (fs : List (Arranged (FinalCite L)))
+      → map seen_in_order (all_changed cites_with_shown shown fs) ≡ all_changed cites_with_shown shown (map seen_in_order fs)
+  shown-seen [] fs = refl
+  shown-seen (s ∷ shown) [] = refl
+  shown-seen (s ∷ shown) (f ∷ fs) = λ i. record { facts = f.facts; cites = row-shown s f.cites i } ∷ shown-seen shown fs i
 
   -- the same cites, before they are arranged and then
   module _ {E P : Type 0} (told : ToldValue) where

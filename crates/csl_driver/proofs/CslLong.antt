@@ -6,7 +6,7 @@ use Rattle.std.proofs.Math.ListN.{length-map}
 use Rattle.std.proofs.lemmas.List.FromFn.{length-enumerate_from, length-range_with_len}
 use Rattle.std.proofs.lemmas.Slice.Zip.{length-zip}
 use Rattle.csl_arranging.specs.Arranged.{arranged_cites, arranged_request}
-use Rattle.csl_arranging.specs.Collapsing.{block_cite, block_years, cite_ranges, collapse_of, collapsed_cites, numbered_cite, suffixed_cite, unranged, whole_in_block, year_collapse}
+use Rattle.csl_arranging.specs.Collapsing.{block_cite, block_cites, block_years, cite_ranges, collapse_of, collapsed_cites, numbered_cite, part_places, shown_cite, suffixed_cite, unranged, whole_in_part, year_collapse}
 use Rattle.csl_arranging.specs.Order.{collapses_years}
 use Rattle.csl_arranging.specs.Positioned.{positioned_cites}
 use Rattle.csl_arranging.specs.Repeating.{repeating_cite, repeating_request}
@@ -15,6 +15,7 @@ use Rattle.csl_arranging.specs.declared.positioned.PositionedCite.{PositionedCit
 use Rattle.csl_arranging.specs.declared.request.CiteStyle.{CiteStyle}
 use Rattle.csl_arranging.specs.declared.request.FinalCite.{FinalCite}
 use Rattle.csl_arranging.specs.declared.request.RequestFacts.{RequestFacts}
+use Rattle.csl_blocks.specs.Parts.{part_at}
 use Rattle.csl_blocks.specs.Years.{years}
 use Rattle.csl_driver.proofs.CslTold.{AreAsLong}
 use Rattle.csl_notes.specs.Repeats.{before_at, positions_behind, repeatable}
@@ -34,12 +35,17 @@ module _ {L : Type 0} (cites : List (PositionedCite L)) (n : ℕ) (long : length
   mapped-long : {B : Type 0} (f : PositionedCite L → B) → length (map f cites) ≡ n
   mapped-long f = length-map cites f ∙ long
 
+  parts-long : length (part_places cites) ≡ n
+  parts-long =
+      let shown = map shown_cite cites in
+      length-map (range_with_len 0 (length shown)) (part_at shown) ∙ length-range_with_len 0 (length shown) ∙ mapped-long shown_cite
+
   pub blocks-long : (style : CiteStyle) (collapse : Option Collapse) → length (block_years style collapse cites) ≡ n
   blocks-long style collapse = by (collapses_years collapse)
     where
-      by : (b : Bool) → length (if b then years (map block_cite cites) (year_collapse style collapse) else map whole_in_block cites) ≡ n
-      by true = numbered-long _ (map block_cite cites) n (mapped-long block_cite)
-      by false = mapped-long whole_in_block
+      by : (b : Bool) → length (if b then years (block_cites cites) (year_collapse style collapse) else map whole_in_part (enumerate_from 0 (part_places cites))) ≡ n
+      by true = numbered-long _ (block_cites cites) n (length-map (zip (part_places cites) cites) block_cite ∙ both-long (part_places cites) cites n parts-long long)
+      by false = numbered-long whole_in_part (part_places cites) n parts-long
 
   stretches-long : (ranges : Bool) → length (suffix_stretches ranges (map suffixed_cite cites)) ≡ n
   stretches-long ranges =

@@ -13,7 +13,7 @@ use Rattle.csl_tables.specs.Tables.{all_tasks, kept_again, kept_at_first, texts_
 use Rattle.csl_tables.specs.declared.subject.Subject.{Subject}
 use Rattle.csl_tables.specs.declared.tables.Told.{Told}
 use Rattle.csl_tables.proofs.Mapped.{asked-mapped, kept-again-mapped, kept-at-first-mapped, suffixes-mapped, tasks-mapped, texts-mapped, third-mapped}
-use Rattle.csl_told_cites.specs.Mentions.{told_mentions}
+use Rattle.csl_told_cites.specs.Mentions.{kept_last, told_mentions}
 use Rattle.csl_writers.specs.Counted.{counted, counted_times}
 use Rattle.csl_writers.specs.Desk.{after, desk}
 use Rattle.csl_writers.specs.Tasks.{CiteTaskValue}
@@ -52,6 +52,13 @@ module _ {E P N : Type 0} (w : WriterState E P N) (n : ℕ) where
         let texts = texts-mapped first_task (reading (cited w n)) (reading_of w.cite) refl ss in
         λ i. told_mentions (firsts i) (again i) (texts i)
 
+    pub told-lasts : kept_last (kept_at_first (keeping (cited w n)) ss) (kept_again (keeping (cited w n)) ss (third_table (reading (cited w n)) ss))
+        ≡ kept_last (kept_at_first (keeping_of w.cite) (map plain ss)) (kept_again (keeping_of w.cite) (map plain ss) (third_table (reading_of w.cite) (map plain ss)))
+    told-lasts =
+        let firsts = kept-at-first-mapped first_task (keeping (cited w n)) (keeping_of w.cite) refl ss in
+        let again = ap (kept_again (keeping (cited w n)) ss) told-states ∙ kept-again-mapped first_task (keeping (cited w n)) (keeping_of w.cite) refl ss (third_table (reading_of w.cite) (map plain ss)) in
+        λ i. kept_last (firsts i) (again i)
+
     -- the desk then
     pub told-asked : (v : WriterState E P N) (m : ℕ) → cited v m ≡ asked_for (all_tasks (reading (cited w n)) ss) (cited w n) → WritesOn w v
         → desk v m ≡ after (map (state_task w.cite) (all_tasks (reading_of w.cite) (map plain ss))) (desk w n)
@@ -79,6 +86,8 @@ module _ {E P N X Way : Type 0} (answers : E → Answers) (eq : E → E → Bool
         suffixes = suffixes way ok ∙ told-suffixes v n ss ∙ ap (year_suffixes (reading_of v.cite)) are;
         mentions = (λ i. told_mentions (firsts way ok i) (again way ok i) (texts way ok i)) ∙ told-mentions v n ss
             ∙ ap (λ ts. told_mentions (kept_at_first (keeping_of v.cite) ts) (kept_again (keeping_of v.cite) ts (third_table (reading_of v.cite) ts)) (texts_told (reading_of v.cite) ts)) are;
+        lasts = (λ i. kept_last (firsts way ok i) (again way ok i)) ∙ told-lasts v n ss
+            ∙ ap (λ ts. kept_last (kept_at_first (keeping_of v.cite) ts) (kept_again (keeping_of v.cite) ts (third_table (reading_of v.cite) ts))) are;
       }
   told-apart (Err e) states suffixes texts firsts again = tt
 

@@ -8,8 +8,10 @@ use Rattle.std.proofs.lemmas.Bool.{not-true}
 use Rattle.std.proofs.lemmas.List.Elements.{All-cons, All-head, All-nil, All-tail}
 use Rattle.std.proofs.lemmas.Option.{get_or_from_slice_get, none-some, same_Some, slice_get-map}
 use Rattle.csl_arranging.specs.Arranged.{arranged_by_years, arranged_cite, arranged_request}
-use Rattle.csl_arranging.specs.Collapsing.{block_years, cite_ranges, fits_range, numbered_cite, range_number, suffixed_cite, unranged, years_with_ranges}
-use Rattle.csl_arranging.specs.Order.{final_order, final_request}
+use Rattle.csl_arranging.specs.Collapsing.{block_years, cite_ranges, collapsed_cites, fits_range, numbered_cite, range_number, suffixed_cite, unranged, years_with_ranges}
+use Rattle.csl_arranging.specs.Requests.{Request as Arranged}
+use Rattle.csl_arranging.specs.declared.arranged.ArrangedCite.{ArrangedCite}
+use Rattle.csl_arranging.specs.declared.request.RequestFacts.{RequestFacts}
 use Rattle.csl_arranging.specs.Positioned.{positioned_cite, positioned_cites}
 use Rattle.csl_arranging.specs.declared.positioned.PositionedCite.{PositionedCite}
 use Rattle.csl_arranging.specs.declared.request.FinalCite.{FinalCite}
@@ -19,7 +21,7 @@ use Rattle.csl_blocks.specs.declared.years.BlockYear.{BlockYear}
 use Rattle.csl_collapse.specs.NumberLaws.{AreNextShown, WasHid, is_hidden, override_at}
 use Rattle.csl_driver.specs.CslReadBack.{HiddenCanBeReadBack, suffix_of}
 use Rattle.csl_driver.proofs.CslLong.{blocks-long, both-long, ranges-long}
-use Rattle.csl_driver.proofs.CslTold.{StandsThere, plain_cites, plain_one, stand-there}
+use Rattle.csl_driver.proofs.CslTold.{AreStanding, Essence, StandsThere, essence, found-there, plain_one}
 use Rattle.csl_entries.specs.Entries.{place}
 use Rattle.csl_lookup.specs.Properties.{LocatorValue}
 use Rattle.csl_notes.specs.declared.notes.CiteNotes.{CiteNotes}
@@ -42,7 +44,7 @@ use Rattle.csl_tables.specs.Steps.{all_changed}
 use Rattle.csl_told_cites.specs.Arranging.{arranged_by, arranged_finally, delimiter_of, en_dash}
 use Rattle.csl_told_cites.specs.Cites.{ToldValue, told_at, told_cite, told_cites}
 use Rattle.csl_told_cites.specs.Mentions.{entry_suffix, suffix_number}
-use Rattle.csl_told_cites.specs.Requests.{cite_style, plain_request, plain_requests}
+use Rattle.csl_told_cites.specs.Requests.{cite_style, request_facts}
 use Rattle.csl_told_cites.specs.declared.mentions.ToldMention.{ToldMention}
 
 or-second : (a b : Bool) → a ≡ false → a || b ≡ true → b ≡ true
@@ -268,7 +270,7 @@ module _ {L : Type 0} (numbers : List ℕ) where
       (ranged-shown cites)
     where
       by : (b : Bool) → fits_range c.cite ≡ b → is_some (if b then slice_get numbers c.cite.entry else None) ≡ true → c.cite.hidden ≡ false
-      by true e h = not-true _ (second c.cite.shows_number (not c.cite.hidden) (is_none c.cite.locator) (is_none c.cite.apart) e)
+      by true e h = not-true _ (second c.cite.shown.has_number (not c.cite.hidden) (is_none c.cite.locator) (is_none c.cite.apart) e)
       by false e h = absurd (true≢false (sym h))
 
 module _ {E P : Type 0} (eq : E → E → Bool) (listed : List E) (told : ToldValue) (mentions : List ToldMention) (numbers : List ℕ) where
@@ -289,12 +291,12 @@ module _ {E P : Type 0} (eq : E → E → Bool) (listed : List E) (told : ToldVa
     abbrev item : FinalCite (LocatorValue P) → RequestedCite E P × CiteNotes → ItemRender E P
     item f p = told_cite told r.note_number f.cite.entry f.placed.place p.0 p.1
 
-    told-of : (f : FinalCite (LocatorValue P)) (p : RequestedCite E P × CiteNotes) → plain p ≡ f.cite → IsToldOf f (item f p)
+    told-of : (f : FinalCite (LocatorValue P)) (p : RequestedCite E P × CiteNotes) → essence (plain p) ≡ essence f.cite → IsToldOf f (item f p)
     told-of f p same = record {
-      same_hidden = ap (λ (c : PlainCite (LocatorValue P)). c.hidden) same;
-      same_suffix = subst (λ (c : PlainCite (LocatorValue P)). suffix_number told.suffixes c.entry ≡ option_map (λ s. s.number) c.suffix) same
+      same_hidden = ap (λ (c : Essence). c.1.0) same;
+      same_suffix = subst (λ (c : Essence). suffix_number told.suffixes c.0 ≡ option_map (λ s. s.number) c.1.1) same
           (sym (number-back _ (suffix_number told.suffixes (place eq p.0.entry listed))));
-      same_class = ap (λ (c : PlainCite (LocatorValue P)). option_map (λ s. s.class) c.suffix) same;
+      same_class = ap (λ (c : Essence). option_map (λ s. s.class) c.1.1) same;
     }
 
     abbrev told_items : List (FinalCite (LocatorValue P)) → List (ItemRender E P)
@@ -328,11 +330,11 @@ module _ {E P : Type 0} (eq : E → E → Bool) (listed : List E) (told : ToldVa
       are-arranged (f ∷ fs) (p ∷ ps) (b ∷ bs) (c ∷ cs) h l m n =
           by (slice_get (zip r.cites notes) f.placed.place) refl (are-arranged fs ps bs cs (All-tail Stands f fs h) (omega (arith, l)) (omega (arith, m)) (omega (arith, n)))
         where
-          there : slice_get (plain_cites eq listed told mentions told.suffixes r notes) f.placed.place ≡ Some f.cite
+          there : Stands f
           there = All-head Stands f fs h
 
-          found : (o : Option (RequestedCite E P × CiteNotes)) → slice_get (zip r.cites notes) f.placed.place ≡ o → option_map plain o ≡ Some f.cite
-          found o e = sym (slice_get-map plain (zip r.cites notes) f.placed.place ∙ ap (option_map plain) e) ∙ there
+          found : (o : Option (RequestedCite E P × CiteNotes)) → slice_get (zip r.cites notes) f.placed.place ≡ o → option_map essence (option_map plain o) ≡ Some (essence f.cite)
+          found o e = found-there eq listed told mentions told.suffixes r notes f o there e
 
           by : (o : Option (RequestedCite E P × CiteNotes)) → slice_get (zip r.cites notes) f.placed.place ≡ o
               → AreSo (map known (positioned_cites fs ps)) cs (told_items fs) (arranged_items fs ps bs cs)
@@ -340,9 +342,9 @@ module _ {E P : Type 0} (eq : E → E → Bool) (listed : List E) (told : ToldVa
               (all_changed (arranged_by numbers r.style.citation)
               ((f, arranged_cite (positioned_cite f p) (collapsed b c)) ∷ zip fs (arranged_by_years (positioned_cites fs ps) (years_with_ranges bs cs)))
               (cons_option (option_map (item f) o) (told_items fs)))
-          by None e more = absurd (none-some f.cite (found None e))
+          by None e more = absurd (none-some (essence f.cite) (found None e))
           by (Some q) e more =
-              let same : plain q ≡ f.cite = same_Some (plain q) f.cite (found (Some q) e) in
+              let same : essence (plain q) ≡ essence f.cite = same_Some (essence (plain q)) (essence f.cite) (found (Some q) e) in
               one-more hidden class number class_of number_of (known (positioned_cite f p)) c (item f q) (arranged_item f p b c (item f q)) (map known (positioned_cites fs ps)) cs
               (told_items fs) (arranged_items fs ps bs cs) (each f p b c (item f q) (told-of f q same)) more
 
@@ -490,17 +492,28 @@ module _ {E P : Type 0} (eq : E → E → Bool) (listed : List E) (told : ToldVa
 
   -- ---- of all requests
 
+  none-back : (R : CiteRender E P → CiteRender E P → Type 0) (fs : List (Arranged (FinalCite (LocatorValue P)))) (xs : List (List ArrangedCite)) → AllZip R [] (arranged_finally numbers fs xs [])
+  none-back R [] xs = tt
+  none-back R (f ∷ fs) [] = tt
+  none-back R (f ∷ fs) (x ∷ xs) = tt
+
   abbrev IsBack : CiteRender E P → CiteRender E P → Type 0
   IsBack ordered arranged = HiddenCanBeReadBack ordered.items arranged.items class_told ordered.request.style.citation.collapse
 
-  pub rows-back : (rs : List (Request E P)) (ns : List (List CiteNotes)) (ps : List (List Position))
-      → let fs = map final_request (plain_requests mentions told.suffixes eq listed rs ns) in AllZip (λ f p. length p ≡ length f.cites) fs ps
+  pub rows-back : (rs : List (Request E P)) (ns : List (List CiteNotes)) (fs : List (Arranged (FinalCite (LocatorValue P)))) (ps : List (List Position))
+      → AreStanding eq listed told mentions told.suffixes rs ns fs → AllZip (λ f p. length p ≡ length f.cites) fs ps
       → AllZip IsBack (told_cites told rs ns fs) (arranged_finally numbers fs (map (λ p. arranged_request numbers p.0 p.1) (zip fs ps)) (told_cites told rs ns fs))
-  rows-back [] ns ps h = tt
-  rows-back (r ∷ rs) [] ps h = tt
-  rows-back (r ∷ rs) (n ∷ ns) [] h = absurd h
-  rows-back (r ∷ rs) (n ∷ ns) (p ∷ ps) h =
-      let f = final_request (plain_request mentions told.suffixes eq listed r n) in (
-        row-back r n f.cites p (stand-there eq listed told mentions told.suffixes r n (final_order f.facts.style (plain_cites eq listed told mentions told.suffixes r n))) h.0 f.facts.has_purpose r.style.citation.collapse,
-        rows-back rs ns ps h.1,
+  rows-back [] ns fs ps s h = none-back IsBack fs (map (λ p. arranged_request numbers p.0 p.1) (zip fs ps))
+  rows-back (r ∷ rs) [] fs ps s h = none-back IsBack fs (map (λ p. arranged_request numbers p.0 p.1) (zip fs ps))
+  rows-back (r ∷ rs) (n ∷ ns) [] ps s h = none-back IsBack [] (map (λ p. arranged_request {L = LocatorValue P} numbers p.0 p.1) (zip [] ps))
+  rows-back (r ∷ rs) (n ∷ ns) (f ∷ fs) [] s h = absurd h
+  rows-back (r ∷ rs) (n ∷ ns) (f ∷ fs) (p ∷ ps) s h =
+      let cites : List (PositionedCite (LocatorValue P)) = positioned_cites f.cites p in
+      let items : List (ItemRender E P) = filter_map (told_at told r n) f.cites in
+      let facts : RequestFacts = request_facts r in
+      let own : HiddenCanBeReadBack items (all_changed (arranged_by numbers r.style.citation) (zip f.cites (arranged_by_years cites (collapsed_cites facts numbers cites))) items) class_told r.style.citation.collapse =
+      row-back r n f.cites p s.1.0 h.0 facts.has_purpose r.style.citation.collapse in (
+        subst (λ (facts : RequestFacts). HiddenCanBeReadBack items (all_changed (arranged_by numbers r.style.citation) (zip f.cites (arranged_by_years cites (collapsed_cites facts numbers cites))) items) class_told r.style.citation.collapse)
+            (sym s.0) own,
+        rows-back rs ns fs ps s.1.1 h.1,
       )

@@ -1,20 +1,22 @@
 -- How cites are arranged depends on their locators only by which are the same, and by which cites have one.
-use Rattle.std.proofs.Common.{◌≡◌, ℕ, zero, suc, ◌+◌, Bool, true, false, not, ◌||◌, ◌&&◌, List, [], ◌∷◌, Option, Some, None, map, refl, ap, sym, ◌∙◌}
+use Rattle.std.proofs.Common.{◌≡◌, ℕ, zero, suc, ◌+◌, Bool, true, false, not, ◌||◌, ◌&&◌, List, [], ◌∷◌, Option, Some, None, length, map, refl, ap, sym, ◌∙◌}
 use Rattle.std.specs.Prelude.{if◌then◌else◌, is_some, nat_eq, slice_get, zip}
 use Rattle.std.specs.List.{enumerate_from, list_any}
 use Rattle.std.specs.Option.{is_none, option_and_then, option_map, option_or}
+use Rattle.std.proofs.Math.ListN.{length-map}
 use Rattle.std.proofs.lemmas.Option.{slice_get-map}
 use Rattle.csl_arranging.specs.Arranged.{arranged_by_years, arranged_cite, arranged_cites, arranged_request}
-use Rattle.csl_arranging.specs.Collapsing.{block_cite, block_years, cite_ranges, collapse_of, collapsed_cites, numbered_cite, range_number, suffixed_cite, unranged, whole_in_block, year_collapse, years_with_ranges}
+use Rattle.csl_arranging.specs.Collapsing.{block_cite, block_cites, block_years, cite_ranges, collapse_of, collapsed_cites, names_shown, numbered_cite, part_places, range_number, shown_cite, suffixed_cite, unranged, whole_in_part, year_collapse, years_with_ranges}
 use Rattle.csl_arranging.specs.Order.{collapses_years}
-use Rattle.csl_arranging.specs.Positioned.{can_be_cut, positioned_cite, positioned_cites}
-use Rattle.csl_arranging.specs.Repeating.{final_positions, repeating_cite, repeating_request}
+use Rattle.csl_arranging.specs.Positioned.{positioned_cite, positioned_cites}
+use Rattle.csl_arranging.specs.Repeating.{all_repeated, cites_repeated, final_positions, first_repeated, firsts_repeated, handed_positions, handed_request, is_looked_at, placed_cite, repeated_at, repeated_where, repeating_cite, repeating_request}
 use Rattle.csl_arranging.specs.Requests.{Request as Arranged}
 use Rattle.csl_arranging.specs.declared.positioned.PositionedCite.{PositionedCite}
 use Rattle.csl_arranging.specs.declared.request.CiteStyle.{CiteStyle}
 use Rattle.csl_arranging.specs.declared.request.FinalCite.{FinalCite}
 use Rattle.csl_arranging.specs.declared.request.RequestFacts.{RequestFacts}
 use Rattle.csl_arranging.specs.declared.request.RequestedCite.{RequestedCite as PlainCite}
+use Rattle.csl_blocks.specs.Parts.{parts}
 use Rattle.csl_blocks.specs.Years.{years}
 use Rattle.csl_blocks.specs.declared.collapsed.CollapsedYear.{CollapsedYear}
 use Rattle.csl_notes.specs.Repeats.{before_at, cites_other, is_note, may_be_repeated, only_repeatable, position_behind, position_by, positions, positions_behind, repeatable}
@@ -24,7 +26,7 @@ use Rattle.csl_notes.specs.declared.repeats.Position.{Position}
 use Rattle.csl_runs.specs.NumberRanges.{number_ranges}
 use Rattle.csl_runs.specs.SuffixStretches.{suffix_stretches}
 use Rattle.csl_style_values.specs.declared.style.Collapse.{Collapse}
-use Rattle.csl_driver.proofs.CslLocated.{seen, seen_finally, seen_in_order}
+use Rattle.csl_driver.proofs.CslLocated.{seen, seen_finally, seen_in_order, seen_request}
 
 before-map : {X Y : Type 0} (g : X → Y) (xs : List X) (k : ℕ) → before_at (map g xs) k ≡ option_map g (before_at xs k)
 before-map g xs zero = refl
@@ -83,6 +85,54 @@ module _ {L M : Type 0} (f : L → M) where
   repeating-row [] = refl
   repeating-row (c ∷ cs) = ap (λ l. seen_placed (repeating_cite c) ∷ l) (repeating-row cs)
 
+  handed-row : (cs : List (PlainCite L)) → map placed_cite (map (seen f) cs) ≡ map seen_placed (map placed_cite cs)
+  handed-row [] = refl
+  handed-row (c ∷ cs) = ap (λ l. seen_placed (placed_cite c) ∷ l) (handed-row cs)
+
+  handed-seen : (rs : List (Arranged (PlainCite L))) → map handed_request (map (seen_request f) rs) ≡ map seen_repeating (map handed_request rs)
+  handed-seen [] = refl
+  handed-seen (r ∷ rs) = λ i. record { note = r.facts.note; cites = handed-row r.cites i } ∷ handed-seen rs i
+
+  -- which mentions they repeat
+  at-seen : (c : PlainCite L) (p : Position) → repeated_at (seen f c) p ≡ repeated_at c p
+  at-seen c Position.Different = refl
+  at-seen c Position.Ibid = refl
+  at-seen c Position.IbidWithLocator = refl
+
+  where-seen : (looked : Bool) (c : PlainCite L) (p : Position) → repeated_where looked (seen f c, p) ≡ repeated_where looked (c, p)
+  where-seen looked c p = ap (λ o. if looked then o else None) (at-seen c p)
+
+  first-seen : (r : Arranged (PlainCite L)) (ps : List Position) → first_repeated (seen_request f r, ps) ≡ first_repeated (r, ps)
+  first-seen r ps =
+      ap (λ n. option_and_then (repeated_where (is_looked_at r.facts n)) (slice_get (zip (map (seen f) r.cites) ps) 0)) (length-map r.cites (seen f))
+      ∙ by (is_looked_at r.facts (length r.cites)) r.cites ps
+    where
+      by : (looked : Bool) (cs : List (PlainCite L)) (ps : List Position)
+          → option_and_then (repeated_where looked) (slice_get (zip (map (seen f) cs) ps) 0) ≡ option_and_then (repeated_where looked) (slice_get (zip cs ps) 0)
+      by looked [] ps = refl
+      by looked (c ∷ cs) [] = refl
+      by looked (c ∷ cs) (p ∷ ps) = where-seen looked c p
+
+  all-firsts-seen : (rs : List (Arranged (PlainCite L))) (ps : List (List Position)) → map first_repeated (zip (map (seen_request f) rs) ps) ≡ map first_repeated (zip rs ps)
+  all-firsts-seen [] ps = refl
+  all-firsts-seen (r ∷ rs) [] = refl
+  all-firsts-seen (r ∷ rs) (p ∷ ps) = λ i. first-seen r p i ∷ all-firsts-seen rs ps i
+
+  repeated-row : (looked : Bool) (cs : List (FinalCite L)) (ps : List Position)
+      → map (λ c. repeated_where looked (c.0.cite, c.1)) (zip (map (seen_finally f) cs) ps) ≡ map (λ c. repeated_where looked (c.0.cite, c.1)) (zip cs ps)
+  repeated-row looked [] ps = refl
+  repeated-row looked (c ∷ cs) [] = refl
+  repeated-row looked (c ∷ cs) (p ∷ ps) = λ i. where-seen looked c.cite p i ∷ repeated-row looked cs ps i
+
+  all-repeated-seen : (fs : List (Arranged (FinalCite L))) (ps : List (List Position)) → map all_repeated (zip (map (seen_in_order f) fs) ps) ≡ map all_repeated (zip fs ps)
+  all-repeated-seen [] ps = refl
+  all-repeated-seen (r ∷ fs) [] = refl
+  all-repeated-seen (r ∷ fs) (p ∷ ps) =
+      let own =
+      ap (λ n. map (λ c. repeated_where (is_looked_at r.facts n) (c.0.cite, c.1)) (zip (map (seen_finally f) r.cites) p)) (length-map r.cites (seen_finally f))
+      ∙ repeated-row (is_looked_at r.facts (length r.cites)) r.cites p in
+      λ i. own i ∷ all-repeated-seen fs ps i
+
   repeating-seen : (fs : List (Arranged (FinalCite L))) → map repeating_request (map (seen_in_order f) fs) ≡ map seen_repeating (map repeating_request fs)
   repeating-seen [] = refl
   repeating-seen (r ∷ fs) = λ i. record { note = r.facts.note; cites = repeating-row r.cites i } ∷ repeating-seen fs i
@@ -101,25 +151,32 @@ module _ {L M : Type 0} (f : L → M) where
   by-years-seen (c ∷ cs) [] = refl
   by-years-seen (c ∷ cs) (y ∷ ys) = ap (λ l. arranged_cite c y ∷ l) (by-years-seen cs ys)
 
-  blocks-seen : (cs : List (PositionedCite L)) → map block_cite (map seen_positioned cs) ≡ map block_cite cs
-  blocks-seen [] = refl
-  blocks-seen (c ∷ cs) = λ i. record {
-    block = c.placed.block;
-    can_be_cut = can_be_cut c;
-    has_locator = some-map f c.cite.locator i;
-  } ∷ blocks-seen cs i
+  shown-seen : (cs : List (PositionedCite L)) → map shown_cite (map seen_positioned cs) ≡ map shown_cite cs
+  shown-seen [] = refl
+  shown-seen (c ∷ cs) = ap (λ l. shown_cite c ∷ l) (shown-seen cs)
 
-  whole-seen : (cs : List (PositionedCite L)) → map whole_in_block (map seen_positioned cs) ≡ map whole_in_block cs
-  whole-seen [] = refl
-  whole-seen (c ∷ cs) = ap (λ l. whole_in_block c ∷ l) (whole-seen cs)
+  parts-seen : (cs : List (PositionedCite L)) → part_places (map seen_positioned cs) ≡ part_places cs
+  parts-seen cs = ap parts (shown-seen cs)
+
+  blocks-row : (ps : List ℕ) (cs : List (PositionedCite L)) → map block_cite (zip ps (map seen_positioned cs)) ≡ map block_cite (zip ps cs)
+  blocks-row [] cs = refl
+  blocks-row (p ∷ ps) [] = refl
+  blocks-row (p ∷ ps) (c ∷ cs) = λ i. record {
+    part = p;
+    can_be_cut = is_some (names_shown c.cite) && c.cite.shown.has_date;
+    has_locator = some-map f c.cite.locator i;
+  } ∷ blocks-row ps cs i
+
+  blocks-seen : (cs : List (PositionedCite L)) → block_cites (map seen_positioned cs) ≡ block_cites cs
+  blocks-seen cs = ap (λ ps. map block_cite (zip ps (map seen_positioned cs))) (parts-seen cs) ∙ blocks-row (part_places cs) cs
 
   years-seen : (style : CiteStyle) (collapse : Option Collapse) (cs : List (PositionedCite L)) → block_years style collapse (map seen_positioned cs) ≡ block_years style collapse cs
   years-seen style collapse cs = λ i.
-      if collapses_years collapse then years (blocks-seen cs i) (year_collapse style collapse) else whole-seen cs i
+      if collapses_years collapse then years (blocks-seen cs i) (year_collapse style collapse) else map whole_in_part (enumerate_from 0 (parts-seen cs i))
 
   range-seen : (numbers : List ℕ) (c : PlainCite L) → range_number numbers (seen f c) ≡ range_number numbers c
   range-seen numbers c = λ i.
-      if c.shows_number && not c.hidden && none-map f c.locator i && is_none c.apart then slice_get numbers c.entry else None
+      if c.shown.has_number && not c.hidden && none-map f c.locator i && is_none c.apart then slice_get numbers c.entry else None
 
   numbered-seen : (numbers : List ℕ) (cs : List (PositionedCite L)) → map (numbered_cite numbers) (map seen_positioned cs) ≡ map (numbered_cite numbers) cs
   numbered-seen numbers [] = refl
@@ -130,9 +187,9 @@ module _ {L M : Type 0} (f : L → M) where
   suffixed-seen (c ∷ cs) = λ i. record {
     entry = c.cite.entry;
     suffix = c.cite.suffix;
-    text = c.cite.text;
-    names = c.cite.names;
-    can_be_cut = can_be_cut c;
+    text = c.cite.shown.text;
+    names = c.cite.shown.names;
+    has_date = c.cite.shown.has_date;
     hidden = c.cite.hidden;
     has_locator = some-map f c.cite.locator i;
     apart = c.cite.apart;
@@ -200,6 +257,14 @@ module _ {L M : Type 0} (f : L → M) where
 
     positions-seen : (fs : List (Arranged (FinalCite L))) → final_positions seen_eq (map (seen_in_order f) fs) ≡ final_positions eq fs
     positions-seen fs = ap (positions seen_eq) (repeating-seen fs) ∙ rows-seen (map repeating_request fs) 0 (map repeating_request fs)
+
+    pub firsts-seen : (rs : List (Arranged (PlainCite L))) → firsts_repeated seen_eq (map (seen_request f) rs) ≡ firsts_repeated eq rs
+    firsts-seen rs =
+        all-firsts-seen rs (handed_positions seen_eq (map (seen_request f) rs))
+        ∙ ap (λ ps. map first_repeated (zip rs ps)) (ap (positions seen_eq) (handed-seen rs) ∙ rows-seen (map handed_request rs) 0 (map handed_request rs))
+
+    pub repeats-seen : (fs : List (Arranged (FinalCite L))) → cites_repeated seen_eq (map (seen_in_order f) fs) ≡ cites_repeated eq fs
+    repeats-seen fs = all-repeated-seen fs (final_positions seen_eq (map (seen_in_order f) fs)) ∙ ap (λ ps. map all_repeated (zip fs ps)) (positions-seen fs)
 
     -- they are arranged alike
     pub cites-seen : (numbers : List ℕ) (fs : List (Arranged (FinalCite L))) → arranged_cites seen_eq numbers (map (seen_in_order f) fs) ≡ arranged_cites eq numbers fs

@@ -1,54 +1,52 @@
 -- Cites in the final order, and as they are arranged, are those of the requests, know where their entries stand, and cite the entries of the table.
-use Rattle.std.proofs.Common.{◌≡◌, ℕ, Bool, Option, List, [], ◌∷◌, ◌++◌, All, length, map, refl, ap, sym, subst, ◌∙◌}
+use Rattle.std.proofs.Common.{◌≡◌, ℕ, suc, Bool, List, [], ◌∷◌, ◌++◌, All, length, map, refl, ap, sym, subst, ◌∙◌}
 use Rattle.std.specs.Cmp.{IsEquivalence}
 use Rattle.std.specs.List.{AllZip, zip}
 use Rattle.std.proofs.lemmas.List.{length-map}
 use Rattle.std.proofs.lemmas.List.Elements.{All-cons, All-head, All-tail}
-use Rattle.csl_arranging.specs.Order.{final_request}
 use Rattle.csl_arranging.specs.Requests.{Request as Arranged}
 use Rattle.csl_arranging.specs.declared.arranged.ArrangedCite.{ArrangedCite}
 use Rattle.csl_arranging.specs.declared.request.FinalCite.{FinalCite}
 use Rattle.csl_driver.specs.Answer.{Job}
 use Rattle.csl_driver.specs.AreCitesOf.{AreCitesOf}
-use Rattle.csl_driver.specs.CslAnswer.{cite_notes, listed, ordered_by}
-use Rattle.csl_driver.proofs.CslCounts.{notes-counted, ordered-once}
+use Rattle.csl_driver.specs.CslAnswer.{cite_notes}
+use Rattle.csl_driver.proofs.CslCounts.{notes-counted}
+use Rattle.csl_driver.proofs.CslOnce.{AreWhole}
 use Rattle.csl_entries.specs.Entries.{is_in}
 use Rattle.csl_entries.specs.PlacedItems.{ArePlaced, IsPlaced}
 use Rattle.csl_entries.specs.Table.{Table, table_of}
 use Rattle.csl_passes.specs.Renders.{CiteRender, ItemRender}
+use Rattle.csl_lookup.specs.Properties.{LocatorValue}
 use Rattle.csl_passes.specs.Request.{Request}
 use Rattle.csl_positions.specs.FinalProperties.{cited_finally}
 use Rattle.csl_style_values.specs.Style.{CitationValue}
 use Rattle.csl_tables.specs.Steps.{all_changed}
 use Rattle.csl_told_cites.specs.Arranging.{arranged_by, arranged_finally, arranged_request}
 use Rattle.csl_told_cites.specs.Cites.{ToldValue, told_cites}
-use Rattle.csl_told_cites.specs.Requests.{plain_requests}
-use Rattle.csl_told_cites.specs.declared.mentions.ToldMention.{ToldMention}
 use Rattle.csl_told_cites.proofs.Standing.{told-of, told-placed, told-same}
-use Rattle.csl_told_cites.proofs.Whole.{plain-lengths}
 
 -- in the final order
 module _ {E P : Type 0} (eq : E → E → Bool) (job : Job E P) where
-  length-of : {X Y : Type 0} (g : X → ℕ) (h : Y → ℕ) (xs : List X) (ys : List Y) → map g xs ≡ map h ys → length xs ≡ length ys
-  length-of g h xs ys same = sym (length-map xs g) ∙ ap length same ∙ length-map ys h
+  -- an order in which each cite of a request stands once has as many requests
+  as-many-whole : (rs : List (Request E P)) (fs : List (Arranged (FinalCite (LocatorValue P)))) → AreWhole rs fs → length fs ≡ length rs
+  as-many-whole [] [] h = refl
+  as-many-whole [] (f ∷ fs) h = absurd h
+  as-many-whole (r ∷ rs) [] h = absurd h
+  as-many-whole (r ∷ rs) (f ∷ fs) h = ap suc (as-many-whole rs fs h.1)
 
-  pub told-stand : IsEquivalence eq → (table : Table E) → table ≡ table_of eq job.requests → (told : ToldValue) (mentions : List ToldMention) (suffixes : List (Option ℕ))
-      → AreCitesOf eq table job.requests (told_cites told job.requests (cite_notes eq job) (ordered_by eq job mentions suffixes))
-  told-stand laws table is told mentions suffixes =
+  pub told-stand : IsEquivalence eq → (table : Table E) → table ≡ table_of eq job.requests → (told : ToldValue) (finals : List (Arranged (FinalCite (LocatorValue P)))) → AreWhole job.requests finals
+      → AreCitesOf eq table job.requests (told_cites told job.requests (cite_notes eq job) finals)
+  told-stand laws table is told finals whole =
       let requests = job.requests in
       let notes = cite_notes eq job in
-      let plains = plain_requests mentions suffixes eq (listed eq job) requests notes in
-      let finals = ordered_by eq job mentions suffixes in
       let cites = told_cites told requests notes finals in
       let counts = notes-counted eq job in
-      let as_many : length notes ≡ length requests = length-of length (λ r. length r.cites) notes requests counts in
-      let in_order : length finals ≡ length requests =
-      length-map plains final_request
-      ∙ length-of (λ p. length p.cites) (λ r. length r.cites) plains requests (plain-lengths mentions suffixes eq (listed eq job) requests notes counts) in
+      let as_many : length notes ≡ length requests = sym (length-map notes length) ∙ ap length counts ∙ length-map requests (λ r. length r.cites) in
+      let in_order : length finals ≡ length requests = as-many-whole requests finals whole in
       record {
         of = told-of told requests notes finals as_many in_order;
         placed = subst (λ (t : Table E). ArePlaced eq t cites) (sym is) (told-placed told eq requests notes finals as_many in_order);
-        same = λ e. told-same told eq laws requests notes finals counts (ordered-once eq job mentions suffixes) e ∙ sym (ap (λ (t : Table E). is_in eq e t.entries) is);
+        same = λ e. told-same told eq laws requests notes finals counts whole e ∙ sym (ap (λ (t : Table E). is_in eq e t.entries) is);
       }
 
 module _ {E P L : Type 0} (numbers : List ℕ) where

@@ -39,7 +39,7 @@ module _ {E P N : Type 0} (answers : E → Answers) (first items last : List (Ta
 
 -- the cites as they are arranged, from the final order and the numbers
 pub arranged-told : {E P : Type 0} (eq : E → E → Bool) (payload_eq : P → P → Bool) (writing : Writing E P) (job : Job E P) {before now : List (CiteRender E P)} {finals : List (Arranged (FinalCite (LocatorValue P)))} {numbers : List ℕ}
-    → before ≡ cites_in_order eq job writing → finals ≡ ordered eq job writing → numbers ≡ numbers_in_the_end eq job writing
+    → before ≡ cites_in_order eq job writing payload_eq → finals ≡ ordered eq job writing payload_eq → numbers ≡ numbers_in_the_end eq job writing payload_eq
     → now ≡ arranged_finally numbers finals (arranged_cites (same_locator payload_eq) numbers finals) before → now ≡ cites_arranged eq job writing payload_eq
 arranged-told eq payload_eq writing job before_is finals_are numbers_are is =
     is ∙ (λ i. arranged_finally (numbers_are i) (finals_are i) (arranged_cites (same_locator payload_eq) (numbers_are i) (finals_are i)) (before_is i))

@@ -1,6 +1,6 @@
 -- Each cite is told all that tells its mention apart, and arranging changes nothing of that.
 use Rattle.std.proofs.Common.{◌≡◌, ℕ, zero, suc, ◌*◌, ◌+◌, Bool, true, false, ◌||◌, cond, not, Option, Some, None, List, [], ◌∷◌, All, length, map, refl, ap, sym, subst, ◌∙◌, arith}
-use Rattle.std.specs.Prelude.{filter_map, option_map, slice_get, slice_index_or, zip}
+use Rattle.std.specs.Prelude.{⊤, filter_map, option_map, slice_get, slice_index_or, zip}
 use Rattle.std.specs.Cmp.{IsEquivalence}
 use Rattle.std.specs.List.{AllZip, cons_option}
 use Rattle.std.proofs.lemmas.List.Elements.{All-append, All-cons, All-head, All-nil, All-tail}
@@ -10,6 +10,7 @@ use Rattle.csl_arranging.specs.Requests.{Request as Arranged}
 use Rattle.csl_arranging.specs.declared.arranged.ArrangedCite.{ArrangedCite}
 use Rattle.csl_arranging.specs.declared.request.FinalCite.{FinalCite}
 use Rattle.csl_arranging.specs.declared.request.RequestedCite.{RequestedCite as PlainCite}
+use Rattle.csl_arranging.specs.declared.request.Shown.{Shown}
 use Rattle.csl_blocks.specs.declared.blocks.PlacedCite.{PlacedCite}
 use Rattle.csl_collapse.specs.NumberLaws.{is_hidden}
 use Rattle.csl_driver.specs.CslCitations.{IsArranged, unarranged}
@@ -21,12 +22,14 @@ use Rattle.csl_notes.specs.declared.notes.CiteNotes.{CiteNotes}
 use Rattle.csl_passes.specs.Renders.{CiteRender, ItemRender}
 use Rattle.csl_passes.specs.Request.{RequestedCite, Request}
 use Rattle.csl_positions.specs.FinalProperties.{items_finally}
+use Rattle.csl_runs.specs.declared.suffixes.Suffix.{Suffix}
 use Rattle.csl_style_values.specs.Style.{CitationValue}
 use Rattle.csl_tables.specs.Steps.{all_changed}
 use Rattle.csl_told_cites.specs.Arranging.{arranged_by, arranged_finally, arranged_request}
 use Rattle.csl_told_cites.specs.Cites.{ToldValue, told_at, told_cite, told_cites, told_means, told_request}
 use Rattle.csl_told_cites.specs.Mentions.{mention_index}
-use Rattle.csl_told_cites.specs.Requests.{plain_cite, plain_request, plain_requests}
+use Rattle.csl_told_cites.specs.Repeats.{cites_with_shown, with_first_key, with_key, with_shown}
+use Rattle.csl_told_cites.specs.Requests.{plain_cite, plain_request, plain_requests, request_facts}
 use Rattle.csl_told_cites.specs.declared.mentions.ToldMention.{ToldMention}
 
 -- ---- lists whose members are changed by others beside them
@@ -82,6 +85,34 @@ module _ {E P L : Type 0} (numbers : List ℕ) where
 abbrev pub AreAsLong : {L : Type 0} → List (Arranged (FinalCite L)) → List (List ArrangedCite) → Type 0
 AreAsLong = AllZip (λ f x. length x ≡ length f.cites)
 
+-- what is known of a cite but for its locator, whatever it shows
+abbrev pub Essence : Type 0
+Essence = ℕ × (Bool × Option Suffix)
+
+abbrev pub essence : {L : Type 0} → PlainCite L → Essence
+essence c = (c.entry, (c.hidden, c.suffix))
+
+-- it is that, by whatever a first cite is brought together with others
+module _ {L : Type 0} where
+  pub key-facts : (key : Option Shown) (r : Arranged (PlainCite L)) → (with_first_key key r).facts ≡ r.facts
+  key-facts None r = refl
+  key-facts (Some s) r = refl
+
+  named-alike : (names : Option ℕ) (cites : List (PlainCite L)) (k : ℕ) → option_map essence (slice_get (with_key names cites) k) ≡ option_map essence (slice_get cites k)
+  named-alike names [] k = refl
+  named-alike names (c ∷ cites) zero = refl
+  named-alike names (c ∷ cites) (suc k) = refl
+
+  pub key-alike : (key : Option Shown) (r : Arranged (PlainCite L)) (k : ℕ) → option_map essence (slice_get (with_first_key key r).cites k) ≡ option_map essence (slice_get r.cites k)
+  key-alike None r k = refl
+  key-alike (Some s) r k = named-alike s.names r.cites k
+
+-- nothing is arranged where there is nothing
+arranged-none : {E P L : Type 0} (Q : CiteRender E P → Type 0) (numbers : List ℕ) (fs : List (Arranged (FinalCite L))) (xs : List (List ArrangedCite)) → All Q (arranged_finally numbers fs xs [])
+arranged-none Q numbers [] xs = All-nil Q
+arranged-none Q numbers (f ∷ fs) [] = All-nil Q
+arranged-none Q numbers (f ∷ fs) (x ∷ xs) = All-nil Q
+
 module _ {E P : Type 0} (eq : E → E → Bool) (listed : List E) (told : ToldValue) where
   -- it has the means of its mention
   abbrev pub HasMeans : ItemRender E P → Type 0
@@ -104,18 +135,29 @@ module _ {E P : Type 0} (eq : E → E → Bool) (listed : List E) (told : ToldVa
       abbrev pub plain_cites : List (PlainCite (LocatorValue P))
       plain_cites = map plain_one (zip r.cites notes)
 
-      -- it stands at its place
+      -- it stands at its place, whatever it shows
       abbrev pub StandsThere : FinalCite (LocatorValue P) → Type 0
-      StandsThere f = slice_get plain_cites f.placed.place ≡ Some f.cite
+      StandsThere f = option_map essence (slice_get plain_cites f.placed.place) ≡ Some (essence f.cite)
 
-      pub stand-there : (order : List PlacedCite) → All StandsThere (cites_in_order plain_cites order)
-      stand-there [] = All-nil StandsThere
-      stand-there (p ∷ order) = by (slice_get plain_cites p.place) refl (stand-there order)
+      pub stand-there : (cites : List (PlainCite (LocatorValue P))) → ((k : ℕ) → option_map essence (slice_get cites k) ≡ option_map essence (slice_get plain_cites k)) → (order : List PlacedCite)
+          → All StandsThere (cites_in_order cites order)
+      stand-there cites alike [] = All-nil StandsThere
+      stand-there cites alike (p ∷ order) = by (slice_get cites p.place) refl (stand-there cites alike order)
         where
-          by : (o : Option (PlainCite (LocatorValue P))) → slice_get plain_cites p.place ≡ o → All StandsThere (cites_in_order plain_cites order)
-              → All StandsThere (cons_option (option_map (with_place p) o) (cites_in_order plain_cites order))
+          by : (o : Option (PlainCite (LocatorValue P))) → slice_get cites p.place ≡ o → All StandsThere (cites_in_order cites order)
+              → All StandsThere (cons_option (option_map (with_place p) o) (cites_in_order cites order))
           by None e more = more
-          by (Some c) e more = All-cons StandsThere (with_place p c) (cites_in_order plain_cites order) e more
+          by (Some c) e more = All-cons StandsThere (with_place p c) (cites_in_order cites order) (sym (alike p.place) ∙ ap (option_map essence) e) more
+
+      shown-there : (s : Option Shown) (f : FinalCite (LocatorValue P)) → StandsThere f → StandsThere (with_shown s f)
+      shown-there None f h = h
+      shown-there (Some s) f h = h
+
+      -- what is known of the cite that stands there
+      pub found-there : (f : FinalCite (LocatorValue P)) (o : Option (RequestedCite E P × CiteNotes)) → StandsThere f → slice_get (zip r.cites notes) f.placed.place ≡ o
+          → option_map essence (option_map plain_one o) ≡ Some (essence f.cite)
+      found-there f o there e =
+          sym (ap (option_map essence) (slice_get-map plain_one (zip r.cites notes) f.placed.place ∙ ap (option_map plain_one) e)) ∙ there
 
       means-one : (f : FinalCite (LocatorValue P)) (i : ItemRender E P) → StandsThere f → told_at told r notes f ≡ Some i → HasMeans i
       means-one f i there h = by (slice_get (zip r.cites notes) f.placed.place) refl h
@@ -125,8 +167,8 @@ module _ {E P : Type 0} (eq : E → E → Bool) (listed : List E) (told : ToldVa
           by None e q = cc
           by (Some p) e q =
               let is : told_cite told r.note_number f.cite.entry f.placed.place p.0 p.1 ≡ i = same_Some _ i q in
-              let same : plain_one p ≡ f.cite = same_Some (plain_one p) f.cite (sym (slice_get-map plain_one (zip r.cites notes) f.placed.place ∙ ap (option_map plain_one) e) ∙ there) in
-              let number : f.cite.entry ≡ place eq p.0.entry listed = ap (λ (c : PlainCite (LocatorValue P)). c.entry) (sym same) in
+              let same : essence (plain_one p) ≡ essence f.cite = same_Some (essence (plain_one p)) (essence f.cite) (found-there f (Some p) there e) in
+              let number : f.cite.entry ≡ place eq p.0.entry listed = ap (λ (c : Essence). c.0) (sym same) in
               subst HasMeans is (ap (λ n. told_means told n p.1.is_first) number)
 
       means-all : (fs : List (FinalCite (LocatorValue P))) → All StandsThere fs → All HasMeans (filter_map (told_at told r notes) fs)
@@ -145,7 +187,7 @@ module _ {E P : Type 0} (eq : E → E → Bool) (listed : List E) (told : ToldVa
       numbered-row numbers citation (f ∷ fs) (x ∷ xs) h long =
           by (slice_get (zip r.cites notes) f.placed.place) refl (numbered-row numbers citation fs xs (All-tail StandsThere f fs h) (omega (arith, long)))
         where
-          there : slice_get plain_cites f.placed.place ≡ Some f.cite
+          there : StandsThere f
           there = All-head StandsThere f fs h
 
           rest : List (ItemRender E P)
@@ -155,54 +197,78 @@ module _ {E P : Type 0} (eq : E → E → Bool) (listed : List E) (told : ToldVa
               → All (HasNumber numbers) (all_changed (arranged_by numbers citation) (zip fs xs) rest)
               → All (HasNumber numbers) (all_changed (arranged_by numbers citation) ((f, x) ∷ zip fs xs)
               (cons_option (option_map (λ p. told_cite told r.note_number f.cite.entry f.placed.place p.0 p.1) o) rest))
-          by None e more = absurd (none-some f.cite (sym (slice_get-map plain_one (zip r.cites notes) f.placed.place ∙ ap (option_map plain_one) e) ∙ there))
+          by None e more = absurd (none-some (essence f.cite) (found-there f None there e))
           by (Some p) e more =
-              let same : plain_one p ≡ f.cite = same_Some (plain_one p) f.cite (sym (slice_get-map plain_one (zip r.cites notes) f.placed.place ∙ ap (option_map plain_one) e) ∙ there) in
+              let same : essence (plain_one p) ≡ essence f.cite = same_Some (essence (plain_one p)) (essence f.cite) (found-there f (Some p) there e) in
               let item : ItemRender E P = told_cite told r.note_number f.cite.entry f.placed.place p.0 p.1 in
               All-cons (HasNumber numbers) (arranged_by numbers citation (f, x) item) (all_changed (arranged_by numbers citation) (zip fs xs) rest)
-              (ap (λ (c : PlainCite (LocatorValue P)). slice_index_or numbers c.entry 0) (sym same)) more
+              (ap (λ (c : Essence). slice_index_or numbers c.0 0) (sym same)) more
+
+    -- the cites of requests in an order stand at their places
+    abbrev pub AreStanding : List (Request E P) → List (List CiteNotes) → List (Arranged (FinalCite (LocatorValue P))) → Type 0
+    AreStanding (r ∷ rs) (n ∷ ns) (f ∷ fs) = (f.facts ≡ request_facts r) × (All (StandsThere r n) f.cites × AreStanding rs ns fs)
+    AreStanding _ _ _ = ⊤
+
+    -- where first cites are brought together by what they show
+    pub keyed-stand : (keys : List (Option Shown)) (rs : List (Request E P)) (ns : List (List CiteNotes))
+        → AreStanding rs ns (map final_request (all_changed with_first_key keys (plain_requests mentions suffixes eq listed rs ns)))
+    keyed-stand keys [] ns = tt
+    keyed-stand keys (r ∷ rs) [] = tt
+    keyed-stand [] (r ∷ rs) (n ∷ ns) =
+        let plain = plain_request mentions suffixes eq listed r n in
+        (refl, (stand-there r n plain.cites (λ k. refl) (final_order plain.facts.style plain.cites), keyed-stand [] rs ns))
+    keyed-stand (key ∷ keys) (r ∷ rs) (n ∷ ns) =
+        let plain = plain_request mentions suffixes eq listed r n in
+        let own = with_first_key key plain in
+        (key-facts key plain, (stand-there r n own.cites (key-alike key plain) (final_order own.facts.style own.cites), keyed-stand keys rs ns))
+
+    -- whatever they show
+    pub shown-stand : (shown : List (List (Option Shown))) (rs : List (Request E P)) (ns : List (List CiteNotes)) (fs : List (Arranged (FinalCite (LocatorValue P))))
+        → AreStanding rs ns fs → AreStanding rs ns (all_changed cites_with_shown shown fs)
+    shown-stand shown [] ns fs h = tt
+    shown-stand shown (r ∷ rs) [] fs h = tt
+    shown-stand [] (r ∷ rs) (n ∷ ns) fs h = h
+    shown-stand (s ∷ shown) (r ∷ rs) (n ∷ ns) [] h = tt
+    shown-stand (s ∷ shown) (r ∷ rs) (n ∷ ns) (f ∷ fs) h =
+        (h.0, (changed-keep with_shown (StandsThere r n) (shown-there r n) s f.cites h.1.0, shown-stand shown rs ns fs h.1.1))
 
     abbrev RowHasNumbers : List ℕ → CiteRender E P → Type 0
     RowHasNumbers numbers c = All (HasNumber numbers) c.items
 
-    numbered-rows : (numbers : List ℕ) (rs : List (Request E P)) (ns : List (List CiteNotes)) (xs : List (List ArrangedCite)) → AreAsLong (map final_request (plain_requests mentions suffixes eq listed rs ns)) xs
-        → let fs = map final_request (plain_requests mentions suffixes eq listed rs ns) in All (RowHasNumbers numbers) (arranged_finally numbers fs xs (told_cites told rs ns fs))
-    numbered-rows numbers [] ns xs h = All-nil (RowHasNumbers numbers)
-    numbered-rows numbers (r ∷ rs) [] xs h = All-nil (RowHasNumbers numbers)
-    numbered-rows numbers (r ∷ rs) (n ∷ ns) [] h = absurd h
-    numbered-rows numbers (r ∷ rs) (n ∷ ns) (x ∷ xs) h =
-        let fs = map final_request (plain_requests mentions suffixes eq listed rs ns) in
-        let f = final_request (plain_request mentions suffixes eq listed r n) in
+    numbered-rows : (numbers : List ℕ) (rs : List (Request E P)) (ns : List (List CiteNotes)) (fs : List (Arranged (FinalCite (LocatorValue P)))) (xs : List (List ArrangedCite))
+        → AreStanding rs ns fs → AreAsLong fs xs → All (RowHasNumbers numbers) (arranged_finally numbers fs xs (told_cites told rs ns fs))
+    numbered-rows numbers [] ns fs xs s h = arranged-none (RowHasNumbers numbers) numbers fs xs
+    numbered-rows numbers (r ∷ rs) [] fs xs s h = arranged-none (RowHasNumbers numbers) numbers fs xs
+    numbered-rows numbers (r ∷ rs) (n ∷ ns) [] xs s h = arranged-none {L = LocatorValue P} (RowHasNumbers numbers) numbers [] xs
+    numbered-rows numbers (r ∷ rs) (n ∷ ns) (f ∷ fs) [] s h = absurd h
+    numbered-rows numbers (r ∷ rs) (n ∷ ns) (f ∷ fs) (x ∷ xs) s h =
         All-cons (RowHasNumbers numbers) (arranged_request numbers (f, x) (told_request told r n f.cites)) (arranged_finally numbers fs xs (told_cites told rs ns fs))
-        (numbered-row r n numbers r.style.citation f.cites x (stand-there r n (final_order f.facts.style (plain_cites r n))) h.0)
-        (numbered-rows numbers rs ns xs h.1)
+        (numbered-row r n numbers r.style.citation f.cites x s.1.0 h.0)
+        (numbered-rows numbers rs ns fs xs s.1.1 h.1)
 
     abbrev RowHasMeans : CiteRender E P → Type 0
     RowHasMeans c = All HasMeans c.items
 
-    means-rows : (rs : List (Request E P)) (ns : List (List CiteNotes)) → All RowHasMeans (told_cites told rs ns (map final_request (plain_requests mentions suffixes eq listed rs ns)))
-    means-rows [] ns = All-nil RowHasMeans
-    means-rows (r ∷ rs) [] = All-nil RowHasMeans
-    means-rows (r ∷ rs) (n ∷ ns) =
-        let f = final_request (plain_request mentions suffixes eq listed r n) in
-        All-cons RowHasMeans (told_request told r n f.cites) (told_cites told rs ns (map final_request (plain_requests mentions suffixes eq listed rs ns)))
-        (means-all r n f.cites (stand-there r n (final_order f.facts.style (plain_cites r n)))) (means-rows rs ns)
+    means-rows : (rs : List (Request E P)) (ns : List (List CiteNotes)) (fs : List (Arranged (FinalCite (LocatorValue P)))) → AreStanding rs ns fs → All RowHasMeans (told_cites told rs ns fs)
+    means-rows [] ns fs s = All-nil RowHasMeans
+    means-rows (r ∷ rs) [] fs s = All-nil RowHasMeans
+    means-rows (r ∷ rs) (n ∷ ns) [] s = All-nil RowHasMeans
+    means-rows (r ∷ rs) (n ∷ ns) (f ∷ fs) s =
+        All-cons RowHasMeans (told_request told r n f.cites) (told_cites told rs ns fs) (means-all r n f.cites s.1.0) (means-rows rs ns fs s.1.1)
 
     -- also as they are arranged
-    pub means-arranged : (rs : List (Request E P)) (ns : List (List CiteNotes)) (numbers : List ℕ) (xs : List (List ArrangedCite))
-        → let fs = map final_request (plain_requests mentions suffixes eq listed rs ns) in All HasMeans (items_finally (arranged_finally numbers fs xs (told_cites told rs ns fs)))
-    means-arranged rs ns numbers xs =
-        let fs = map final_request (plain_requests mentions suffixes eq listed rs ns) in
+    pub means-arranged : (rs : List (Request E P)) (ns : List (List CiteNotes)) (fs : List (Arranged (FinalCite (LocatorValue P)))) (numbers : List ℕ) (xs : List (List ArrangedCite))
+        → AreStanding rs ns fs → All HasMeans (items_finally (arranged_finally numbers fs xs (told_cites told rs ns fs)))
+    means-arranged rs ns fs numbers xs s =
         joined-rows HasMeans (arranged_finally numbers fs xs (told_cites told rs ns fs))
         (changed-keep (arranged_request numbers) RowHasMeans
         (λ z c h. changed-keep (arranged_by numbers c.request.style.citation) HasMeans (λ y i m. m) (zip z.0.cites z.1) c.items h)
-        (zip fs xs) (told_cites told rs ns fs) (means-rows rs ns))
+        (zip fs xs) (told_cites told rs ns fs) (means-rows rs ns fs s))
 
-    pub numbers-arranged : (rs : List (Request E P)) (ns : List (List CiteNotes)) (numbers : List ℕ) (xs : List (List ArrangedCite)) → AreAsLong (map final_request (plain_requests mentions suffixes eq listed rs ns)) xs
-        → let fs = map final_request (plain_requests mentions suffixes eq listed rs ns) in All (HasNumber numbers) (items_finally (arranged_finally numbers fs xs (told_cites told rs ns fs)))
-    numbers-arranged rs ns numbers xs long =
-        let fs = map final_request (plain_requests mentions suffixes eq listed rs ns) in
-        joined-rows (HasNumber numbers) (arranged_finally numbers fs xs (told_cites told rs ns fs)) (numbered-rows numbers rs ns xs long)
+    pub numbers-arranged : (rs : List (Request E P)) (ns : List (List CiteNotes)) (fs : List (Arranged (FinalCite (LocatorValue P)))) (numbers : List ℕ) (xs : List (List ArrangedCite))
+        → AreStanding rs ns fs → AreAsLong fs xs → All (HasNumber numbers) (items_finally (arranged_finally numbers fs xs (told_cites told rs ns fs)))
+    numbers-arranged rs ns fs numbers xs s long =
+        joined-rows (HasNumber numbers) (arranged_finally numbers fs xs (told_cites told rs ns fs)) (numbered-rows numbers rs ns fs xs s long)
 
 -- ---- by the account
 

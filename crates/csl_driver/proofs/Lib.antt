@@ -24,7 +24,9 @@ pub mod Steps
 pub mod CslMentions
 pub mod CslLocated
 pub mod CslRepeated
+pub mod CslOrdered
 pub mod CslCounts
+pub mod CslFew
 pub mod CslStanding
 pub mod CslArranged
 pub mod CslAccounting

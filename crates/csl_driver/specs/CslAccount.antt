@@ -10,6 +10,7 @@ use Rattle.csl_writers.specs.Writing.{Writing}
 use Rattle.csl_driver.specs.Account.{listed_count}
 use Rattle.csl_driver.specs.Answer.{Job}
 use Rattle.csl_driver.specs.CslAnswer.{entry_suffixes, listed, mentions, read, states}
+use Rattle.csl_driver.specs.CslTasks.{repeat_cite_tasks}
 
 -- every second member, with the first one or without it
 abbrev pub every_second : {X : Type 0} → Bool → List X → List X
@@ -26,10 +27,11 @@ module _ {E P : Type 0} (eq : E → E → Bool) (job : Job E P) (writing : Writi
   abbrev pub csl_rounds : ℕ
   csl_rounds = rounds_of (states eq job writing) (entry_suffixes eq job writing)
 
-  -- the renderings: those of mentions; one for each cite, hidden or not; and one for each entry of
-  -- the bibliography, where there is one
-  abbrev pub csl_cost : ℕ
-  csl_cost = length (all_tasks (read eq job writing) (mentions eq job))
+  -- the renderings: those of mentions, alone and as cites repeat them; one for each cite, hidden
+  -- or not; and one for each entry of the bibliography, where there is one
+  abbrev pub csl_cost : (P → P → Bool) → ℕ
+  csl_cost payload_eq = length (all_tasks (read eq job writing) (mentions eq job))
+      + length (repeat_cite_tasks eq job writing payload_eq)
       + length (cites_of job.requests) + listed_count eq job.wanted job.requests
 
   -- the states of the first mentions of the entries, and those of their later ones

@@ -3,8 +3,12 @@ use Rattle.std.specs.Prelude.{ℕ, Bool, false, List, [], Option, Some, map, opt
 use Rattle.std.specs.List.{enumerate_from, filter_map}
 use Rattle.csl_arranging.specs.Arranged.{arranged_cites}
 use Rattle.csl_arranging.specs.Order.{final_request}
+use Rattle.csl_arranging.specs.Repeating.{cites_repeated, firsts_repeated}
 use Rattle.csl_arranging.specs.Requests.{Request as PlainRequest}
+use Rattle.csl_arranging.specs.declared.repeating.Repeated.{Repeated}
 use Rattle.csl_arranging.specs.declared.request.FinalCite.{FinalCite}
+use Rattle.csl_arranging.specs.declared.request.RequestedCite.{RequestedCite as PlainCite}
+use Rattle.csl_arranging.specs.declared.request.Shown.{Shown}
 use Rattle.csl_assembly.specs.ByMeans.{bibliography_by_means}
 use Rattle.csl_assembly.specs.WithoutEmpty.{citation_without_empty}
 use Rattle.csl_assembly.specs.declared.by_means.ItemMeans.{ItemMeans}
@@ -24,11 +28,13 @@ use Rattle.csl_positions.specs.FinalProperties.{first_item}
 use Rattle.csl_requested_mentions.specs.Handed.{notes_of_cites}
 use Rattle.csl_requested_mentions.specs.Mentions.{mentions_of}
 use Rattle.csl_tables.specs.Asked.{untold}
+use Rattle.csl_tables.specs.Steps.{all_changed}
 use Rattle.csl_tables.specs.Tables.{kept_again, kept_at_first, texts_told, third_table, year_suffixes}
 use Rattle.csl_tables.specs.declared.subject.Subject.{Subject}
 use Rattle.csl_told_cites.specs.Arranging.{arranged_finally}
 use Rattle.csl_told_cites.specs.Cites.{ToldValue, told_cites}
-use Rattle.csl_told_cites.specs.Mentions.{mention_index, suffix_number, told_mentions}
+use Rattle.csl_told_cites.specs.Mentions.{kept_last, mention_index, suffix_number, told_mentions}
+use Rattle.csl_told_cites.specs.Repeats.{cites_with_shown, repeat_tasks, shown_repeats, with_first_key}
 use Rattle.csl_told_cites.specs.Requests.{plain_requests}
 use Rattle.csl_told_cites.specs.declared.mentions.ToldMention.{ToldMention}
 use Rattle.csl_writers.specs.Tasks.{CiteTaskValue}
@@ -80,11 +86,11 @@ module _ {E P : Type 0} (eq : E → E → Bool) (job : Job E P) where
   abbrev pub mentions : List (Subject (CiteTaskValue E P))
   mentions = mentions_of eq job.offset listed job.requests
 
-  -- the requests, their cites in the final order, from what is known of mentions and the suffixes
-  abbrev pub ordered_by : List ToldMention → List (Option ℕ)
-      → List (PlainRequest (FinalCite (LocatorValue P)))
-  ordered_by told suffixes =
-      map final_request (plain_requests told suffixes eq listed job.requests cite_notes)
+  -- the requests, their cites as they are handed in, from what is known of mentions and the
+  -- suffixes
+  abbrev pub plain_by : List ToldMention → List (Option ℕ)
+      → List (PlainRequest (PlainCite (LocatorValue P)))
+  plain_by told suffixes = plain_requests told suffixes eq listed job.requests cite_notes
 
   -- the numbers of the entries of the bibliography in the end, by these cites in the final order
   abbrev pub numbers_by : List (CiteRender E P) → List ℕ
@@ -120,19 +126,47 @@ module _ {E P : Type 0} (eq : E → E → Bool) (job : Job E P) where
       numbers = [];
     }
 
-    -- the requests, their cites in the final order
-    abbrev pub ordered : List (PlainRequest (FinalCite (LocatorValue P)))
-    ordered = ordered_by shown_mentions entry_suffixes
+    -- the requests, their cites as they are handed in
+    abbrev pub plain : List (PlainRequest (PlainCite (LocatorValue P)))
+    plain = plain_by shown_mentions entry_suffixes
 
-    -- and these cites, of which nothing is written yet
-    abbrev pub cites_in_order : List (CiteRender E P)
-    cites_in_order = told_cites known job.requests cite_notes ordered
+    -- what was kept of each mention as it was written last
+    abbrev pub last_kept : List KeptOfMention
+    last_kept = kept_last (kept_at_first keep mentions) (kept_again keep mentions states)
 
-    -- the numbers of the entries in the end
-    abbrev pub numbers_in_the_end : List ℕ
-    numbers_in_the_end = numbers_by cites_in_order
+    -- what is asked for mentions that cites repeat, and what these cites show
+    abbrev pub tasks_repeated : List (Option Repeated) → List (CiteTaskValue E P)
+    tasks_repeated = repeat_tasks shown_mentions mentions states
+
+    abbrev pub shown_repeated : List (Option Repeated) → List (Option Shown)
+    shown_repeated = shown_repeats shown_mentions mentions states last_kept writing.cite
 
     module _ (payload_eq : P → P → Bool) where
+      -- the mentions that the first cites of requests repeat, as they are handed in
+      abbrev pub repeated_firsts : List (Option Repeated)
+      repeated_firsts = firsts_repeated (same_locator payload_eq) plain
+
+      -- the requests, whose first cites are brought together with others by what they show
+      abbrev pub keyed : List (PlainRequest (PlainCite (LocatorValue P)))
+      keyed = all_changed with_first_key (shown_repeated repeated_firsts) plain
+
+      -- the mentions that cites repeat in their final order
+      abbrev pub repeated_cites : List (List (Option Repeated))
+      repeated_cites = cites_repeated (same_locator payload_eq) (map final_request keyed)
+
+      -- the requests, their cites in the final order, with what they show there
+      abbrev pub ordered : List (PlainRequest (FinalCite (LocatorValue P)))
+      ordered = all_changed cites_with_shown (map shown_repeated repeated_cites)
+          (map final_request keyed)
+
+      -- and these cites, of which nothing is written yet
+      abbrev pub cites_in_order : List (CiteRender E P)
+      cites_in_order = told_cites known job.requests cite_notes ordered
+
+      -- the numbers of the entries in the end
+      abbrev pub numbers_in_the_end : List ℕ
+      numbers_in_the_end = numbers_by cites_in_order
+
       -- the cites as they are arranged: with their positions and numbers, and collapsed
       abbrev pub cites_arranged : List (CiteRender E P)
       cites_arranged = arranged_finally numbers_in_the_end ordered

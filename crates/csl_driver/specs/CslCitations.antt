@@ -21,11 +21,10 @@ use Rattle.csl_passes.specs.Renders.{CiteRender, ItemRender}
 use Rattle.csl_passes.specs.Request.{source_of, wanted_source}
 use Rattle.csl_positions.specs.FinalProperties.{items_finally}
 use Rattle.csl_told_cites.specs.Mentions.{suffix_number}
-use Rattle.csl_told_cites.specs.Requests.{plain_requests}
 use Rattle.csl_writers.specs.Writing.{Writing}
 use Rattle.csl_driver.specs.Answer.{Job}
 use Rattle.csl_driver.specs.AnswerLaws.{HasOwnCites, number_in, places_of, uncollapsed, unsettled}
-use Rattle.csl_driver.specs.CslAnswer.{cite_notes, entry_suffixes, listed, listed_cites, shown_mentions, told_citations}
+use Rattle.csl_driver.specs.CslAnswer.{keyed, listed, listed_cites, told_citations}
 use Rattle.csl_driver.specs.CslByEntry.{entries_had, means_had, state_of}
 use Rattle.csl_driver.specs.CslReadBack.{CanBeReadBack}
 use Rattle.csl_driver.specs.ShownEntries.{entries_shown}
@@ -67,8 +66,8 @@ abbrev pub IsNumbered : {E P : Type 0} → (E → E → Bool) → CslAccount E �
 IsNumbered eq account i = i.properties.speculative.citation_number
     ≡ number_in eq (entries_had account) account.numbers.items i.entry
 
-module _ {E P : Type 0} (eq : E → E → Bool) (writing : Writing E P) (job : Job E P)
-    (account : CslAccount E) where
+module _ {E P : Type 0} (eq : E → E → Bool) (payload_eq : P → P → Bool) (writing : Writing E P)
+    (job : Job E P) (account : CslAccount E) where
   -- a cite is told all that tells its mention apart, and the suffix of its entry
   abbrev pub IsToldWhole : ItemRender E P → Type 0
   IsToldWhole i =
@@ -76,11 +75,6 @@ module _ {E P : Type 0} (eq : E → E → Bool) (writing : Writing E P) (job : J
       i.properties.speculative.means
       ≡ means_of (state_of account entry i.properties.certain.is_first)
       (suffix_number account.suffixes.items entry)
-
-  -- the cites of requests, by the names that their mentions show
-  abbrev pub plain : List (Arranged (PlainCite (LocatorValue P)))
-  plain = plain_requests (shown_mentions eq job writing) (entry_suffixes eq job writing) eq
-      (listed eq job) job.requests (cite_notes eq job)
 
   -- the cites of a request stand in blocks, if its style brings cites together
   abbrev pub StandsInBlocks : Arranged (PlainCite (LocatorValue P)) → CiteRender E P → Type 0
@@ -96,8 +90,9 @@ module _ {E P : Type 0} (eq : E → E → Bool) (writing : Writing E P) (job : J
     pub asked_for : map (λ c. c.request) ordered ≡ job.requests
     -- each once
     pub own_cites : All HasOwnCites ordered
-    -- where cites are brought together those of a block are
-    pub blocks : AllZip StandsInBlocks plain ordered
+    -- where cites are brought together by names those of a block are: by the names that their
+    -- mentions show, but a first cite that repeats by those that it shows then
+    pub blocks : AllZip StandsInBlocks (keyed eq job writing payload_eq) ordered
     pub arranges : AllZip IsArranged ordered arranged
     -- what this hides can be read back from what it shows
     pub read_back : AllZip (CanBeReadBack eq writing job) ordered arranged

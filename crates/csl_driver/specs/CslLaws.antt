@@ -62,10 +62,14 @@ module _ {E P : Type 0} (eq : E → E → Bool) (job : Job E P) where
 
   -- what an answer cost
   pub record HasCosts (account : CslAccount E) : Type 0 where
-    -- the renderings: those of mentions; one for each cite, hidden or not; and one for each entry
-    -- of the bibliography, where there is one. The count stands still at the greatest number of
-    -- 128 bits
-    pub renders : account.renders ≡ min (mention_count account
+    -- how often mentions were written as cites repeat them: once a request at most, and once a
+    -- cite
+    pub repeats : ℕ
+    pub few_repeats : repeats ≤ length job.requests + length (cites_of job.requests)
+    -- the renderings: those of mentions, alone and as cites repeat them; one for each cite, hidden
+    -- or not; and one for each entry of the bibliography, where there is one. The count stands
+    -- still at the greatest number of 128 bits
+    pub renders : account.renders ≡ min (mention_count account + repeats
         + length (cites_of job.requests)
         + where_listed job.wanted.style.bibliography (length (entries_had account)))
         (2 ^ 128 - 1)
@@ -104,11 +108,12 @@ module _ {E P : Type 0} (eq : E → E → Bool) (job : Job E P) where
           (states_had account) account.suffixes.items
 
     -- what holds of every answer and its account
-    pub record KeepsCslLaws (r : Rendered × CslAccount E) : Type 0 where
-      pub entries : HasCitedEntries r.1
-      pub telling : TellsWorksApart r.1
-      pub costs : HasCosts r.1
-      -- each citation comes from the cites of its request, which are told what the account has
-      pub citations : ComeArranged eq writing job r.1 r.0.citations
-      pub numbers : NumbersEntries r.1 citations.ordered
-      pub bibliography : IsListedByMeans eq writing job r.1 citations.arranged r.0
+    pub record KeepsCslLaws (payload_eq : P → P → Bool) (r : Rendered × CslAccount E) : Type 0
+      where
+        pub entries : HasCitedEntries r.1
+        pub telling : TellsWorksApart r.1
+        pub costs : HasCosts r.1
+        -- each citation comes from the cites of its request, which are told what the account has
+        pub citations : ComeArranged eq payload_eq writing job r.1 r.0.citations
+        pub numbers : NumbersEntries r.1 citations.ordered
+        pub bibliography : IsListedByMeans eq payload_eq writing job r.1 citations.arranged r.0

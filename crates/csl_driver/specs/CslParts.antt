@@ -7,11 +7,14 @@ use Rattle.csl_cited_mentions.specs.declared.kept.KeptOfMention.{KeptOfMention}
 use Rattle.csl_lookup.specs.Properties.{LocatorValue}
 use Rattle.csl_lookup.specs.declared.locator.SpecificLocator.{SpecificLocator}
 use Rattle.csl_tables.specs.declared.tables.Told.{Told}
-use Rattle.csl_told_cites.specs.Mentions.{told_mentions}
+use Rattle.csl_shown.specs.declared.shown.ShownNames.{ShownNames}
+use Rattle.csl_told_cites.specs.Mentions.{first_with_names, kept_last, told_mentions}
+use Rattle.csl_told_cites.specs.NotedNames.{first_noted}
 use Rattle.csl_told_cites.specs.Requests.{located}
+use Rattle.csl_told_cites.specs.declared.repeats.MentionsTold.{MentionsTold}
 use Rattle.csl_writers.specs.Writing.{Writing}
 use Rattle.csl_driver.specs.Answer.{Job}
-use Rattle.csl_driver.specs.CslAnswer.{entry_suffixes, shown_mentions, states as told_states}
+use Rattle.csl_driver.specs.CslAnswer.{entry_suffixes, last_kept, shown_mentions, states as told_states}
 
 -- what tells the mentions of a job apart
 pub record AreToldApart {E P : Type 0} (eq : E → E → Bool) (job : Job E P) (writing : Writing E P)
@@ -20,6 +23,15 @@ pub record AreToldApart {E P : Type 0} (eq : E → E → Bool) (job : Job E P) (
   pub suffixes : t.suffixes.items ≡ entry_suffixes eq job writing
   pub mentions : told_mentions t.firsts.items t.again.items t.texts.items
       ≡ shown_mentions eq job writing
+  pub lasts : kept_last t.firsts.items t.again.items ≡ last_kept eq job writing
+
+-- what is known of mentions is what was told of them
+pub record IsKnownOf (known : MentionsTold) : Type 0 where
+  pub mentions : known.mentions.now
+      ≡ told_mentions known.told.now.firsts.items known.told.now.again.items
+      known.told.now.texts.items
+  pub noted : (n : ShownNames) → first_noted known.noted.now n
+      ≡ first_with_names (kept_last known.told.now.firsts.items known.told.now.again.items) n
 
 -- cites in the final order with their locators as plain data
 module _ {P : Type 0} where

@@ -15,7 +15,7 @@ module _ {E P : Type 0} (eq : E → E → Bool) (payload_eq : P → P → Bool) 
   pub record IsExactlyCsl : Type 0 where
     pub ok : r.0 ≡ rendered_csl eq job writing payload_eq
     -- the renderings; the count stands still at the greatest number of 128 bits
-    pub renders : r.1.renders ≡ min (csl_cost eq job writing) (2 ^ 128 - 1)
+    pub renders : r.1.renders ≡ min (csl_cost eq job writing payload_eq) (2 ^ 128 - 1)
     -- how many of names, choices and suffixes told something apart
     pub rounds : r.1.rounds ≡ csl_rounds eq job writing
     -- the entries of the bibliography; and at the same places the states of their mentions, their
@@ -24,9 +24,9 @@ module _ {E P : Type 0} (eq : E → E → Bool) (payload_eq : P → P → Bool) 
     pub first_mentions : r.1.first_mentions.items ≡ first_states eq job writing
     pub later_mentions : r.1.later_mentions.items ≡ later_states eq job writing
     pub suffixes : r.1.suffixes.items ≡ entry_suffixes eq job writing
-    pub numbers : r.1.numbers.items ≡ numbers_in_the_end eq job writing
+    pub numbers : r.1.numbers.items ≡ numbers_in_the_end eq job writing payload_eq
 
   -- it is that, and the laws hold of it
   pub record IsCslAnswer : Type 0 where
     pub exact : IsExactlyCsl
-    pub laws : KeepsCslLaws eq job writing r
+    pub laws : KeepsCslLaws eq job writing payload_eq r

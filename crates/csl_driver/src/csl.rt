@@ -1,30 +1,34 @@
 //! The whole answer where works are told apart as CSL 1.0.2 has it.
-ghost use Rattle.std.specs.Prelude.{◌≡◌, IfOk, OnOk, length, map};
-ghost use Rattle.csl_driver.specs.CslAnswer.{cite_notes, told_citations};
-ghost use Rattle.csl_driver.specs.CslParts.{AreToldApart};
+ghost use Rattle.std.specs.Prelude.{◌≡◌, IfOk, OnOk, map};
+ghost use Rattle.csl_arranging.specs.Requests.{requests_view as all_arranged_view};
+ghost use Rattle.csl_driver.specs.AreCitesOf.{AreCitesOf};
+ghost use Rattle.csl_driver.specs.CslAnswer.{cites_in_order, mentions, ordered, told_citations};
+ghost use Rattle.csl_driver.specs.CslParts.{AreToldApart, all_located};
 ghost use Rattle.csl_driver.specs.CslPromised.{IsExactlyCsl};
-ghost use Rattle.csl_driver.specs.CslTasks.{csl_tasks, mention_tasks};
-ghost use Rattle.csl_driver.specs.DraftView.{job_in};
+ghost use Rattle.csl_driver.specs.CslTasks.{csl_tasks, mention_tasks, order_tasks};
+ghost use Rattle.csl_driver.specs.DraftView.{job_in, table_in};
 ghost use Rattle.csl_driver.specs.WriterTasks.{last_tasks};
 ghost use Rattle.csl_passes.specs.RendersView.{renders_view};
-ghost use Rattle.csl_requested_mentions.specs.Handed.{cite_counts};
+ghost use Rattle.csl_requested_mentions.specs.Plain.{plain};
 ghost use Rattle.csl_writers.specs.Desk.{after, desk};
 ghost use Rattle.csl_writers.specs.Writing.{asked_for, writing_of};
 
 use crate::csl_account::CslAccount;
+use crate::csl_cites::OrderedRequest;
 use crate::draft::Draft;
 use csl_assembly::rendered::{Rendered, RenderedCitation};
 use csl_assembly::without_empty::citation_without_empty;
 use csl_base::entry::EntryLike;
 use csl_base::seq::Seq;
 use csl_cited_mentions::kept::KeptOfMention;
-use csl_notes::notes::CiteNotes;
+use csl_cited_mentions::mention::CiteMention;
 use csl_passes::acyclic::AcyclicRequest;
-use csl_passes::renders::SpeculativeCiteRender;
+use csl_passes::renders::{Cites, SpeculativeCiteRender};
 use csl_requested_mentions::handed::notes_of_cites;
 use csl_requested_mentions::homes::homes;
 use csl_requested_mentions::mentions::mentions;
 use csl_requested_mentions::properties::properties_of_mentions;
+use csl_tables::subject::Subject;
 use csl_tables::tables::{Told, tell_apart};
 use csl_writers::counter::Renders;
 use csl_writers::pushed::push;
@@ -50,12 +54,8 @@ impl<'d, 'o, 'a, T: EntryLike, P: Eq + Drop> Draft<'d, 'o, 'a, T, P> {
         ensures agreed { OnOk result ((way : W.Way) → W.agrees writer.new way
             → W.agrees writer.old way) }
     {
-        let cited = self.cited;
         let mut counter = Renders::new();
-        let requests = self.requests.requests;
-        let notes = notes_of_cites(alloc, requests, &cited.table, &cited.listing)?;
-        let told = self.told_apart(alloc, &notes, writer, &mut counter)?;
-        let (ordered, mut all) = self.cites_in_order(alloc, &notes, &told)?;
+        let (told, ordered, mut all) = self.told_in_order(alloc, writer, &mut counter)?;
         let cites: &mut [SpeculativeCiteRender<'d, 'a, T, P>] = &mut all.by_request;
         let numbers = self.arrange(alloc, cites, &ordered)?;
         let bibliography = self.told_bibliography(alloc, cites, &told, writer, &mut counter)?;
@@ -68,18 +68,64 @@ impl<'d, 'o, 'a, T: EntryLike, P: Eq + Drop> Draft<'d, 'o, 'a, T, P> {
         Ok((rendered, account))
     }
 
-    /// What tells the mentions of all entries apart, as this writer writes them. The notes say of
-    /// each cite of each request in which note its entry is cited first, and whether it is near.
-    fn told_apart<W: CiteWriter<T, P>>(
+    /// What tells the mentions of all entries apart, as this writer writes them; the requests, their
+    /// cites in the final order; and these cites, of which nothing is written yet.
+    fn told_in_order<W: CiteWriter<T, P>>(
         self,
         alloc: Global,
-        notes: &[Vec<CiteNotes>],
+        writer: &mut W,
+        counter: &mut Renders,
+    ) -> Result<
+        (
+            Told<KeptOfMention>,
+            Vec<OrderedRequest<'d, 'a, P>>,
+            Cites<'d, 'a, T, P>,
+        ),
+        W::Error,
+    >
+        ensures told { IfOk result (λ r. (way : W.Way) → W.agrees writer.new way
+            → AreToldApart T.eq (job_in self.entry)
+            (writing_of T.answers (W.state writer.old way)) r.0) }
+        ensures ordered { let job = job_in self.entry in
+            IfOk result (λ r. (way : W.Way) → W.agrees writer.new way
+            → all_located (all_arranged_view r.1.items)
+            ≡ ordered T.eq job (writing_of T.answers (W.state writer.old way)) P.eq) }
+        ensures cites { let job = job_in self.entry in
+            IfOk result (λ r. (way : W.Way) → W.agrees writer.new way
+            → renders_view r.2.by_request.items
+            ≡ cites_in_order T.eq job (writing_of T.answers (W.state writer.old way)) P.eq) }
+        ensures belong { IfOk result (λ r. AreCitesOf T.eq (table_in self.entry)
+            (job_in self.entry).requests (renders_view r.2.by_request.items)) }
+        ensures asked { OnOk result ((way : W.Way) → W.agrees writer.new way
+            → desk (W.state writer.new way) counter.new
+            ≡ after (order_tasks T.eq (job_in self.entry)
+            (writing_of T.answers (W.state writer.old way)) P.eq)
+            (desk (W.state writer.old way) counter.old)) }
+        ensures agreed { OnOk result ((way : W.Way) → W.agrees writer.new way
+            → W.agrees writer.old way) }
+    {
+        let cited = self.cited;
+        let requests = self.requests.requests;
+        let notes = notes_of_cites(alloc, requests, &cited.table, &cited.listing)?;
+        let homes = homes(alloc, self.requests, &cited.listing, &notes)?;
+        let properties = properties_of_mentions(alloc, &homes, cited.offset)?;
+        let mentions = mentions(alloc, &homes, &properties)?;
+        let told = self.told_apart(alloc, &mentions, writer, counter)?;
+        let (ordered, cites) = self.cites_in_order(
+            alloc, &notes, &told, &mentions, writer, counter,
+        )?;
+        Ok((told, ordered, cites))
+    }
+
+    /// What tells the mentions of all entries apart, as this writer writes them.
+    fn told_apart<'t, 'p, W: CiteWriter<T, P>>(
+        self,
+        alloc: Global,
+        subjects: &[Subject<CiteMention<'t, 'p, T, P>>],
         writer: &mut W,
         counter: &mut Renders,
     ) -> Result<Told<KeptOfMention>, W::Error>
-        requires notes { map (λ n. n.items) notes.now ≡ cite_notes T.eq (job_in self) }
-        requires counts { map (λ n. length n.items) notes.now
-            ≡ cite_counts (job_in self).requests }
+        requires { map plain subjects.now ≡ mentions T.eq (job_in self) }
         ensures told { IfOk result (λ t. (way : W.Way) → W.agrees writer.new way
             → AreToldApart T.eq (job_in self.entry)
             (writing_of T.answers (W.state writer.old way)) t) }
@@ -91,10 +137,7 @@ impl<'d, 'o, 'a, T: EntryLike, P: Eq + Drop> Draft<'d, 'o, 'a, T, P> {
         ensures agreed { OnOk result ((way : W.Way) → W.agrees writer.new way
             → W.agrees writer.old way) }
     {
-        let homes = homes(alloc, self.requests, &self.cited.listing, notes)?;
-        let properties = properties_of_mentions(alloc, &homes, self.cited.offset)?;
-        let mentions = mentions(alloc, &homes, &properties)?;
-        tell_apart(alloc, &mentions, writer, counter)
+        tell_apart(alloc, subjects, writer, counter)
     }
 
     /// The citation of each request, from its cites as they are arranged.

@@ -6,68 +6,174 @@ ghost use Rattle.csl_driver.specs.AreCitesOf.{AreCitesOf};
 ghost use Rattle.csl_driver.specs.CslAnswer.{
   cite_notes,
   cites_in_order,
+  mentions,
   numbers_by,
   ordered,
-  ordered_by,
+  plain_by,
   same_locator,
 };
-ghost use Rattle.csl_driver.specs.CslParts.{AreToldApart, all_located};
+ghost use Rattle.csl_driver.specs.CslParts.{AreToldApart, IsKnownOf, all_located};
+ghost use Rattle.csl_driver.specs.CslTasks.{repeat_cite_tasks};
 ghost use Rattle.csl_driver.specs.DraftView.{job_in, table_in};
 ghost use Rattle.csl_passes.specs.RendersView.{renders_view};
 ghost use Rattle.csl_requested_mentions.specs.Handed.{cite_counts};
+ghost use Rattle.csl_requested_mentions.specs.Plain.{plain};
 ghost use Rattle.csl_told_cites.specs.Arranging.{arranged_finally};
-ghost use Rattle.csl_writers.specs.Writing.{Writing};
+ghost use Rattle.csl_tables.specs.Steps.{all_changed};
+ghost use Rattle.csl_told_cites.specs.Repeats.{cites_with_shown, with_first_key};
+ghost use Rattle.csl_told_cites.specs.Requests.{located_request};
+ghost use Rattle.csl_writers.specs.Desk.{after, desk};
+ghost use Rattle.csl_writers.specs.Writing.{writing_of};
 
 use crate::draft::Draft;
 use csl_arranging::arranged::arranged_cites;
 use csl_arranging::order::final_requests;
-use csl_arranging::request::{CiteRequest, FinalCite};
+use csl_arranging::repeating::{cites_repeated, firsts_repeated};
+use csl_arranging::request::{CiteRequest, FinalCite, RequestedCite, Shown};
 use csl_base::entry::EntryLike;
 use csl_cited_mentions::kept::KeptOfMention;
+use csl_cited_mentions::mention::CiteMention;
 use csl_lookup::locator::SpecificLocator;
 use csl_notes::notes::CiteNotes;
 use csl_passes::renders::{Cites, SpeculativeCiteRender};
+use csl_tables::subject::Subject;
 use csl_tables::tables::Told;
 use csl_told_cites::arranging::arrange_finally;
 use csl_told_cites::cites::{ToldEntries, told_cites};
-use csl_told_cites::mentions::{ToldMention, told_mentions};
-use csl_told_cites::requests::plain_requests;
+use csl_told_cites::mentions::{ToldMention, noted_names, told_mentions};
+use csl_told_cites::repeats::{
+    MentionsTold, all_shown_repeats, set_first_keys, set_shown, shown_repeats,
+};
+use csl_told_cites::requests::{LocatedCite, plain_requests};
+use csl_writers::counter::Renders;
+use csl_writers::writer::CiteWriter;
 use std::alloc::{AllocError, Global};
 
 /// A request with its cites in the final order, whose locators are lent by its caller's request.
-type OrderedRequest<'d, 'a, P> = CiteRequest<FinalCite<&'d SpecificLocator<'a, P>>>;
+pub(crate) type OrderedRequest<'d, 'a, P> = CiteRequest<FinalCite<&'d SpecificLocator<'a, P>>>;
 
 impl<'d, 'o, 'a, T: EntryLike, P: Eq + Drop> Draft<'d, 'o, 'a, T, P> {
-    /// The requests, their cites in the final order, and these cites, of which nothing is written
-    /// yet. The notes are those of the requests' cites.
-    pub(crate) fn cites_in_order(
+    /// The requests, their cites in the final order, with what cites show that repeat others, as
+    /// this writer writes their mentions; and these cites, of which nothing is written yet. The
+    /// notes are those of the requests' cites.
+    pub(crate) fn cites_in_order<'t, 'p, W: CiteWriter<T, P>>(
         self,
         alloc: Global,
         notes: &[Vec<CiteNotes>],
         told: &Told<KeptOfMention>,
-    ) -> Result<(Vec<OrderedRequest<'d, 'a, P>>, Cites<'d, 'a, T, P>), AllocError>
+        subjects: &[Subject<CiteMention<'t, 'p, T, P>>],
+        writer: &mut W,
+        counter: &mut Renders,
+    ) -> Result<(Vec<OrderedRequest<'d, 'a, P>>, Cites<'d, 'a, T, P>), W::Error>
         requires notes { map (λ n. n.items) notes.now ≡ cite_notes T.eq (job_in self) }
         requires counts { map (λ n. length n.items) notes.now
             ≡ cite_counts (job_in self).requests }
+        requires subjects { map plain subjects.now ≡ mentions T.eq (job_in self) }
         ensures ordered { let job = job_in self.entry in
-            IfOk result (λ r. (writing : Writing T P) → AreToldApart T.eq job writing told.now
-            → all_located (all_arranged_view r.0.items) ≡ ordered T.eq job writing) }
+            IfOk result (λ r. (way : W.Way) → W.agrees writer.new way
+            → AreToldApart T.eq job (writing_of T.answers (W.state writer.old way)) told.now
+            → all_located (all_arranged_view r.0.items)
+            ≡ ordered T.eq job (writing_of T.answers (W.state writer.old way)) P.eq) }
         ensures cites { let job = job_in self.entry in
-            IfOk result (λ r. (writing : Writing T P) → AreToldApart T.eq job writing told.now
-            → renders_view r.1.by_request.items ≡ cites_in_order T.eq job writing) }
-        ensures belong { IfOk result (λ r. AreCitesOf T.eq (table_in self.entry)
-            (job_in self.entry).requests (renders_view r.1.by_request.items)) }
+            IfOk result (λ r. (way : W.Way) → W.agrees writer.new way
+            → AreToldApart T.eq job (writing_of T.answers (W.state writer.old way)) told.now
+            → renders_view r.1.by_request.items
+            ≡ cites_in_order T.eq job (writing_of T.answers (W.state writer.old way)) P.eq) }
+        ensures belong { let job = job_in self.entry in
+            IfOk result (λ r. (way : W.Way) → W.agrees writer.new way
+            → AreToldApart T.eq job (writing_of T.answers (W.state writer.old way)) told.now
+            → AreCitesOf T.eq (table_in self.entry) job.requests
+            (renders_view r.1.by_request.items)) }
+        ensures asked { let job = job_in self.entry in
+            OnOk result ((way : W.Way) → W.agrees writer.new way
+            → AreToldApart T.eq job (writing_of T.answers (W.state writer.old way)) told.now
+            → desk (W.state writer.new way) counter.new
+            ≡ after (repeat_cite_tasks T.eq job (writing_of T.answers (W.state writer.old way))
+            P.eq) (desk (W.state writer.old way) counter.old)) }
+        ensures agreed { OnOk result ((way : W.Way) → W.agrees writer.new way
+            → W.agrees writer.old way) }
     {
-        let mentions = told_mentions(alloc, told)?;
-        let ordered = self.ordered(alloc, notes, &mentions, &told.suffixes)?;
-        let known = ToldEntries {
+        let noted = noted_names(alloc, &told.firsts, &told.again)?;
+        let mentions = told_mentions(alloc, told, &noted)?;
+        let known = MentionsTold {
+            told,
+            mentions: &mentions,
+            noted: &noted,
+        };
+        let ordered = self.ordered(alloc, notes, known, subjects, writer, counter)?;
+        let told_entries = ToldEntries {
             states: &told.states,
             mentions: &mentions,
             suffixes: &told.suffixes,
             numbers: &[],
         };
-        let cites = told_cites(alloc, &known, self.requests.requests, notes, &ordered)?;
+        let cites = told_cites(
+            alloc,
+            &told_entries,
+            self.requests.requests,
+            notes,
+            &ordered,
+        )?;
         Ok((ordered, cites))
+    }
+
+    /// The requests, their cites in the final order, where this is known of mentions. Mentions are
+    /// written as the first cites of requests repeat them, by which these are brought together with
+    /// others; and then as all cites do in their final order.
+    fn ordered<'t, 'p, W: CiteWriter<T, P>>(
+        self,
+        alloc: Global,
+        notes: &[Vec<CiteNotes>],
+        known: MentionsTold<'_, '_, '_>,
+        subjects: &[Subject<CiteMention<'t, 'p, T, P>>],
+        writer: &mut W,
+        counter: &mut Renders,
+    ) -> Result<Vec<OrderedRequest<'d, 'a, P>>, W::Error>
+        requires notes { map (λ n. n.items) notes.now ≡ cite_notes T.eq (job_in self) }
+        requires known { IsKnownOf known }
+        requires subjects { map plain subjects.now ≡ mentions T.eq (job_in self) }
+        ensures ordered { let job = job_in self.entry in
+            IfOk result (λ v. (way : W.Way) → W.agrees writer.new way
+            → AreToldApart T.eq job (writing_of T.answers (W.state writer.old way)) known.entry.told.now
+            → all_located (all_arranged_view v.items)
+            ≡ ordered T.eq job (writing_of T.answers (W.state writer.old way)) P.eq) }
+        ensures asked { let job = job_in self.entry in
+            OnOk result ((way : W.Way) → W.agrees writer.new way
+            → AreToldApart T.eq job (writing_of T.answers (W.state writer.old way)) known.entry.told.now
+            → desk (W.state writer.new way) counter.new
+            ≡ after (repeat_cite_tasks T.eq job (writing_of T.answers (W.state writer.old way))
+            P.eq) (desk (W.state writer.old way) counter.old)) }
+        ensures agreed { OnOk result ((way : W.Way) → W.agrees writer.new way
+            → W.agrees writer.old way) }
+    {
+        let mut plain = self.plain(alloc, notes, known.mentions, &known.told.suffixes)?;
+        let firsts = firsts_repeated(alloc, &plain)?;
+        let first_shown = shown_repeats(alloc, known, subjects, &firsts, writer, counter)?;
+        key_firsts(&mut plain, &first_shown);
+        let mut ordered = final_requests(alloc, &plain)?;
+        let repeats = cites_repeated(alloc, &ordered)?;
+        let shown = all_shown_repeats(alloc, known, subjects, &repeats, writer, counter)?;
+        show_cites(&mut ordered, &shown);
+        Ok(ordered)
+    }
+
+    /// The requests, their cites as they are handed in, where this is known of mentions and
+    /// suffixes.
+    fn plain(
+        self,
+        alloc: Global,
+        notes: &[Vec<CiteNotes>],
+        mentions: &[ToldMention],
+        suffixes: &[Option<usize>],
+    ) -> Result<Vec<CiteRequest<LocatedCite<'d, 'a, P>>>, AllocError>
+        requires { map (λ n. n.items) notes.now ≡ cite_notes T.eq (job_in self) }
+        ensures { IfOk result (λ v. map located_request (all_arranged_view v.items)
+            ≡ plain_by T.eq (job_in self.entry) mentions.now suffixes.now) }
+    {
+        let requests = self.requests.requests;
+        let table = &self.cited.table;
+        let listing = &self.cited.listing;
+        plain_requests(alloc, requests, table, listing, notes, mentions, suffixes)
     }
 
     /// Arranges the cites of all requests, which are in this final order. It returns the numbers of
@@ -94,25 +200,6 @@ impl<'d, 'o, 'a, T: EntryLike, P: Eq + Drop> Draft<'d, 'o, 'a, T, P> {
         Ok(numbers)
     }
 
-    /// The requests, their cites in the final order, where this is known of mentions and suffixes.
-    fn ordered(
-        self,
-        alloc: Global,
-        notes: &[Vec<CiteNotes>],
-        mentions: &[ToldMention],
-        suffixes: &[Option<usize>],
-    ) -> Result<Vec<OrderedRequest<'d, 'a, P>>, AllocError>
-        requires { map (λ n. n.items) notes.now ≡ cite_notes T.eq (job_in self) }
-        ensures { IfOk result (λ v. all_located (all_arranged_view v.items)
-            ≡ ordered_by T.eq (job_in self.entry) mentions.now suffixes.now) }
-    {
-        let requests = self.requests.requests;
-        let table = &self.cited.table;
-        let listing = &self.cited.listing;
-        let plain = plain_requests(alloc, requests, table, listing, notes, mentions, suffixes)?;
-        final_requests(alloc, &plain)
-    }
-
     /// The numbers of the entries in the end, in the order of the bibliography.
     fn listed_numbers(
         self,
@@ -132,4 +219,21 @@ impl<'d, 'o, 'a, T: EntryLike, P: Eq + Drop> Draft<'d, 'o, 'a, T, P> {
         }
         Ok(listed)
     }
+}
+
+/// Brings the first cite of each request together with others by what it shows, where that is said.
+fn key_firsts<L>(requests: &mut Vec<CiteRequest<RequestedCite<L>>>, shown: &[Option<Shown>])
+    ensures { all_arranged_view requests.new.items
+        ≡ all_changed with_first_key shown.now (all_arranged_view requests.old.items) }
+{
+    set_first_keys(requests, shown);
+}
+
+/// Says what cites show, by request and by place in its final order, where that is said.
+fn show_cites<L>(requests: &mut Vec<CiteRequest<FinalCite<L>>>, shown: &[Vec<Option<Shown>>])
+    ensures { all_arranged_view requests.new.items
+        ≡ all_changed cites_with_shown (map (λ s. s.items) shown.now)
+        (all_arranged_view requests.old.items) }
+{
+    set_shown(requests, shown);
 }

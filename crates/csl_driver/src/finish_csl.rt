@@ -36,8 +36,10 @@ impl<'a, T: EntryLike, P: Eq + Drop> BibliographyDriver<'a, T, P> {
     /// that disambiguation adds, and repeated authors are substituted in them.
     ///
     /// The renderings are two for each distinct entry; one for each mention that got other names,
-    /// and one for each whose condition holds; one for each cite, hidden or not; and, where there
-    /// is a bibliography, one for each of its entries.
+    /// and one for each whose condition holds; where requests of two cites or more are grouped or
+    /// collapsed, one for each whose first cite repeats one, and one for each cite that repeats one
+    /// in the final order; one for each cite, hidden or not; and, where there is a bibliography,
+    /// one for each of its entries.
     ///
     /// # Errors
     /// `MacroRing` only where a style has macros that call each other in a ring;

@@ -52,5 +52,5 @@ pub fn answers_keep_laws<T: EntryLike, P: Eq>()
 /// be read back; and the renderings and rounds have bounds.
 pub fn csl_answers_keep_laws<T: EntryLike, P: Eq>()
     ensures { (writing : Writing T P) (job : Job T P) (r : Rendered × CslAccount T)
-        → IsExactlyCsl T.eq P.eq writing job r → KeepsCslLaws T.eq job writing r }
+        → IsExactlyCsl T.eq P.eq writing job r → KeepsCslLaws T.eq job writing P.eq r }
 {}

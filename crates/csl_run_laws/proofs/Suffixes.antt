@@ -22,7 +22,7 @@ second true true c d e f h = refl
 
 -- a cite that may be in a stretch isn't hidden by its caller
 shown : (c : SuffixedCite) → fits c ≡ true → c.hidden ≡ false
-shown c h = not-true _ (second c.can_be_cut (not c.hidden) (not c.has_locator) (is_some c.text) (is_some c.suffix) (not (is_alone c.apart)) h)
+shown c h = not-true _ (second c.has_date (not c.hidden) (not c.has_locator) (is_some c.text) (is_some c.suffix) (not (is_alone c.apart)) h)
 
 record IsNextOf (s t : Option Suffix) : Type 0 where
   here : ℕ

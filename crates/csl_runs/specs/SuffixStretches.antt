@@ -14,9 +14,9 @@ abbrev pub is_alone : Option Apart → Bool
 is_alone (Some Apart.Both) = true
 is_alone _ = false
 
--- it can be cut and has a suffix, and nothing but its year is shown
+-- it shows a date and has a suffix, and nothing but its year is shown
 abbrev pub fits : SuffixedCite → Bool
-fits c = c.can_be_cut && not c.hidden && not c.has_locator && is_some c.text && is_some c.suffix
+fits c = c.has_date && not c.hidden && not c.has_locator && is_some c.text && is_some c.suffix
     && not (is_alone c.apart)
 
 -- both are there, and of one class

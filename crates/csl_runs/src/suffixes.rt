@@ -32,8 +32,8 @@ pub struct SuffixedCite {
     /// Its names as they are shown: a number that is the same for equal ones; none where it has
     /// none.
     pub names: Option<usize>,
-    /// Whether it can be cut: it doesn't repeat the cite before it, and shows a date.
-    pub can_be_cut: bool,
+    /// Whether it shows a date.
+    pub has_date: bool,
     /// Whether its caller hides it.
     pub hidden: bool,
     pub has_locator: bool,
@@ -121,7 +121,7 @@ fn joins(cite: &SuffixedCite, next: &SuffixedCite) -> bool
 fn fits(cite: &SuffixedCite) -> bool
     ensures { result ≡ fits cite.now }
 {
-    cite.can_be_cut
+    cite.has_date
         && !cite.hidden
         && !cite.has_locator
         && cite.text.is_some()

@@ -6,7 +6,7 @@ use Rattle.csl_tables.specs.Steps.{all_changed}
 use Rattle.csl_tables.proofs.Changing.{changed-more}
 
 -- all that have one beside them are changed
-enough : {C X : Type 0} (f : C → X → X) (k : ℕ) (cs : List C) (xs : List X) → min (length cs) (length xs) ≤ k → all_changed f (take k cs) xs ≡ all_changed f cs xs
+pub enough : {C X : Type 0} (f : C → X → X) (k : ℕ) (cs : List C) (xs : List X) → min (length cs) (length xs) ≤ k → all_changed f (take k cs) xs ≡ all_changed f cs xs
 enough f zero [] xs h = refl
 enough f (suc k) [] xs h = refl
 enough f zero (c ∷ cs) [] h = refl

@@ -7,3 +7,4 @@ pub mod Placed
 pub mod Telling
 pub mod Standing
 pub mod Whole
+pub mod Repeating

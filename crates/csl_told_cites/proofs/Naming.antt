@@ -56,7 +56,7 @@ noted-more old new names k first is at n = at n ∙ by (same_names names n) refl
         ∙ ap (λ b. option_or (first_noted old n) (cond b (Some k) None)) (sym own)
     by false p = or-none (first_noted old n) ∙ ap (λ b. option_or (first_noted old n) (cond b (Some k) None)) (sym (names-differ names n p))
 
-enumerate-push : {X : Type 0} (n : ℕ) (xs : List X) (x : X) → enumerate_from n (xs ++ x ∷ []) ≡ enumerate_from n xs ++ (n + length xs, x) ∷ []
+pub enumerate-push : {X : Type 0} (n : ℕ) (xs : List X) (x : X) → enumerate_from n (xs ++ x ∷ []) ≡ enumerate_from n xs ++ (n + length xs, x) ∷ []
 enumerate-push n [] x = ap (λ k. (k, x) ∷ []) (omega arith)
 enumerate-push n (y ∷ ys) x =
     ap (λ l. (n, y) ∷ l) (enumerate-push (n + 1) ys x

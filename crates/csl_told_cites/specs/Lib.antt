@@ -5,3 +5,4 @@ pub mod ByPlaces
 pub mod Cites
 pub mod ToldView
 pub mod Arranging
+pub mod Repeats

@@ -29,10 +29,12 @@ told_mention number first again text =
     let last = unwrap_or again first in
     record {
       usage = first.usage;
-      names = option_and_then number last.names;
-      text = text;
-      shows_number = last.shows_number;
-      shows_date = last.shows_date;
+      shown = record {
+        names = option_and_then number last.names;
+        text = text;
+        has_number = last.shows_number;
+        has_date = last.shows_date;
+      };
     }
 
 -- all mentions: what was kept of them at first and again, and what they read as
@@ -50,10 +52,12 @@ mention_index entry is_first = if is_first then 2 * entry else 2 * entry + 1
 abbrev pub unshown : ToldMention
 unshown = record {
   usage = IdentifierUsage.None;
-  names = None;
-  text = None;
-  shows_number = false;
-  shows_date = false;
+  shown = record {
+    names = None;
+    text = None;
+    has_number = false;
+    has_date = false;
+  };
 }
 
 -- the first mention of an entry, or its later one; nothing is shown where it isn't there
@@ -70,7 +74,7 @@ suffix_number suffixes entry = slice_index_or suffixes entry None
 abbrev pub entry_suffix : List ToldMention → List (Option ℕ) → ℕ → Option Suffix
 entry_suffix mentions suffixes entry = option_map
     (λ number. record {
-      class = unwrap_or (mention_of mentions entry false).text 0;
+      class = unwrap_or (mention_of mentions entry false).shown.text 0;
       number = number;
     })
     (suffix_number suffixes entry)

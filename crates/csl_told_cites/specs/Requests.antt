@@ -44,13 +44,12 @@ module _ {E P : Type 0} where
         let mention = mention_of mentions entry notes.is_first in
         record {
           entry = entry;
+          is_first = notes.is_first;
           locator = c.locator;
           hidden = c.hidden;
           apart = c.apart;
-          names = mention.names;
-          text = mention.text;
-          shows_number = mention.shows_number;
-          shows_date = mention.shows_date;
+          key = mention.shown.names;
+          shown = mention.shown;
           suffix = entry_suffix mentions suffixes entry;
         }
 
@@ -73,13 +72,12 @@ module _ {P : Type 0} where
   abbrev pub located : PlainCite (Bor (SpecificLocator P)) → PlainCite (LocatorValue P)
   located c = record {
     entry = c.entry;
+    is_first = c.is_first;
     locator = option_map (λ l. locator_view l.now) c.locator;
     hidden = c.hidden;
     apart = c.apart;
-    names = c.names;
-    text = c.text;
-    shows_number = c.shows_number;
-    shows_date = c.shows_date;
+    key = c.key;
+    shown = c.shown;
     suffix = c.suffix;
   }
 

@@ -26,7 +26,7 @@ use csl_lookup::state::{CollapseVerdict, IbidState};
 use csl_notes::repeats::Position;
 use csl_passes::renders::{SpeculativeCiteRender, SpeculativeItemRender};
 
-fn ibid_of(position: Position) -> IbidState
+pub(crate) fn ibid_of(position: Position) -> IbidState
     ensures { result ≡ ibid_of position }
 {
     match position {

@@ -5,4 +5,5 @@
 pub mod arranging;
 pub mod cites;
 pub mod mentions;
+pub mod repeats;
 pub mod requests;

@@ -16,6 +16,7 @@ ghost use Rattle.csl_told_cites.specs.Mentions.{
 };
 ghost use Rattle.csl_told_cites.specs.NotedNames.{first_noted};
 
+use csl_arranging::request::Shown;
 use csl_cited_mentions::kept::KeptOfMention;
 use csl_lookup::state::IdentifierUsage;
 use csl_runs::suffixes::Suffix;
@@ -29,20 +30,16 @@ use std::collections::HashMap;
 pub struct ToldMention {
     /// Which identifiers of its entry it had written where nothing told it apart.
     pub usage: IdentifierUsage,
-    /// Its names as they are shown in the end: the index of the first mention that shows equal
-    /// ones; none where it shows none.
-    pub names: Option<usize>,
-    /// What it reads as in the end: the index of the first mention with its text; none where it
-    /// has no text.
-    pub text: Option<usize>,
-    /// Whether it shows the number of its entry in the end.
-    pub shows_number: bool,
-    /// Whether it shows a date in the end.
-    pub shows_date: bool,
+    /// What it shows in the end. Its names and its text are told by the index of the first mention
+    /// that shows equal names, or has its text.
+    pub shown: Shown,
 }
 
 /// What was kept of a mention as it was written last.
-fn last_of<'k>(first: &'k KeptOfMention, again: &'k Option<KeptOfMention>) -> &'k KeptOfMention
+pub(crate) fn last_of<'k>(
+    first: &'k KeptOfMention,
+    again: &'k Option<KeptOfMention>,
+) -> &'k KeptOfMention
     ensures { result.now ≡ unwrap_or again.now first.now }
 {
     match again {
@@ -83,7 +80,11 @@ fn note_names<'k>(
 }
 
 /// The names that mentions show in the end, each with the index of the first that shows them.
-fn noted_names<'k>(
+///
+/// # Errors
+///
+/// Where memory is refused.
+pub fn noted_names<'k>(
     alloc: Global,
     firsts: &'k [KeptOfMention],
     again: &'k [Option<KeptOfMention>],
@@ -122,10 +123,12 @@ fn told_mention(
     let last = last_of(first, again);
     ToldMention {
         usage: first.usage,
-        names: first_of(noted, &last.names),
-        text,
-        shows_number: last.shows_number,
-        shows_date: last.shows_date,
+        shown: Shown {
+            names: first_of(noted, &last.names),
+            text,
+            has_number: last.shows_number,
+            has_date: last.shows_date,
+        },
     }
 }
 
@@ -149,7 +152,7 @@ fn mentions_by(
     Ok(mentions)
 }
 
-/// What is known of the mentions that were told apart, in their order.
+/// What is known of the mentions that were told apart, in their order, by the names that they show.
 ///
 /// # Errors
 ///
@@ -157,15 +160,14 @@ fn mentions_by(
 pub fn told_mentions(
     alloc: Global,
     told: &Told<KeptOfMention>,
+    noted: &HashMap<&ShownNames, usize>,
 ) -> Result<Vec<ToldMention>, AllocError>
+    requires { (n : NamesValue) → first_noted noted.now n
+        ≡ first_with_names (kept_last told.now.firsts.items told.now.again.items) n }
     ensures { IfOk result (λ v. v.items
         ≡ told_mentions told.now.firsts.items told.now.again.items told.now.texts.items) }
 {
-    let firsts = told.firsts.as_slice();
-    let again = told.again.as_slice();
-    let texts = told.texts.as_slice();
-    let noted = noted_names(alloc, firsts, again)?;
-    mentions_by(alloc, &noted, firsts, again, texts)
+    mentions_by(alloc, noted, &told.firsts, &told.again, &told.texts)
 }
 
 /// A mention of which nothing is known.
@@ -174,10 +176,12 @@ fn unshown() -> ToldMention
 {
     ToldMention {
         usage: IdentifierUsage::None,
-        names: None,
-        text: None,
-        shows_number: false,
-        shows_date: false,
+        shown: Shown {
+            names: None,
+            text: None,
+            has_number: false,
+            has_date: false,
+        },
     }
 }
 
@@ -234,7 +238,7 @@ pub fn entry_suffix(
 {
     match suffix_number(suffixes, entry) {
         Some(number) => Some(Suffix {
-            class: mention_of(mentions, entry, false).text.unwrap_or(0),
+            class: mention_of(mentions, entry, false).shown.text.unwrap_or(0),
             number,
         }),
         None => None,

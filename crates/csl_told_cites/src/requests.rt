@@ -91,13 +91,12 @@ fn plain_cite<'r, 'a, T, P>(
     let mention = mention_of(mentions, entry, notes.is_first);
     RequestedCite {
         entry,
+        is_first: notes.is_first,
         locator: locator_of(item),
         hidden: item.hidden,
         apart: item.apart,
-        names: mention.names,
-        text: mention.text,
-        shows_number: mention.shows_number,
-        shows_date: mention.shows_date,
+        key: mention.shown.names,
+        shown: mention.shown,
         suffix: entry_suffix(mentions, suffixes, entry),
     }
 }

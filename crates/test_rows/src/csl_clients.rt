@@ -42,7 +42,7 @@ pub fn letters_of_alike<'a, T: EntryLike, P: Eq>(
     second: usize,
 ) -> Result<Option<(String, String)>, AllocError>
     ensures { IfOk result (λ letters. (asked : Job T P) (writing : Writing T P)
-        (rendered : Rendered) → KeepsCslLaws T.eq asked writing (rendered, account.now)
+        (rendered : Rendered) → KeepsCslLaws T.eq asked writing P.eq (rendered, account.now)
         → (alike : ReadAlike (laters_had T.eq asked writing account.now) first second)
         → (alike.one.adds_suffix || alike.other.adds_suffix) ≡ true
         → HaveOtherLetters letters) }

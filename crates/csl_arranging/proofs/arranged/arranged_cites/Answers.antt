@@ -1,10 +1,7 @@
-use Rattle.std.proofs.Common.{arith, ◌≡◌, ◌<◌, [], ap, length, map, subst, sym, take, ◌++◌, ◌∷◌, ◌∙◌}
-use Rattle.std.specs.Prelude.{zip}
-use Rattle.std.proofs.lemmas.List.{map-append}
-use Rattle.csl_notes.proofs.Stepping.{here-view, past-view, within-view}
+use Rattle.std.proofs.Common.{arith, ◌<◌, ◌≤◌, ap, length, map, min, subst, sym, ◌∙◌}
 use Rattle.csl_arranging.specs.Arranged.{arranged_request}
-use Rattle.csl_arranging.specs.Requests.{request_view, requests_view}
-use Rattle.csl_arranging.proofs.Walking.{all-have-positions, all-zipped, arranged_pair, zip-next}
+use Rattle.csl_arranging.specs.Requests.{request_view}
+use Rattle.csl_arranging.proofs.Walking.{all-have-positions, all-pairs, arranged_pair, seen-pairs-next}
 use Rattle.csl_arranging.proofs.arranged.arranged_cites.Goals as goal
 
 pub index-requires : goal.index-requires
@@ -20,21 +17,17 @@ loop-k-preserved g c =
     let k = c.loop-k.k in
     let numbers = c.args.numbers.now in
     let m = c.index-requests-k.result in
-    let q = c.index.result.now in
     let found = c.in_ok-positions.positions.items in
     let within = c.loop-k-test.true in
     let has = subst (λ n. k < n) (sym (all-have-positions g.L.PartialEq.eq given (λ p. p.items) found c.in_ok-positions.ensures)) within in
-    let pairs = zip (requests_view given) (map (λ p. p.items) found) in
-    ap (map (λ a. a.items)) c.in_ok-push.ensures.items ∙ map-append (λ a. a.items) c.loop-k.arranged.items (c.in_ok-arranged_request.field-0 ∷ [])
-    ∙ (λ i. c.loop-k.invariant i ++ (c.in_ok-arranged_request.ensures ∙ ap (arranged_request numbers (request_view m)) c.deref.ensures.value) i ∷ [])
-    ∙ sym (ap (map (arranged_pair numbers)) (zip-next (requests_view given) (map (λ p. p.items) found) k (request_view m) q.items
-    (within-view request_view given k within) (within-view (λ p. p.items) found k has) (here-view request_view given k m within c.index-requests-k.is)
-    (here-view (λ p. p.items) found k q has c.index.ensures))
-    ∙ map-append (arranged_pair numbers) (take k pairs) ((request_view m, q.items) ∷ []))
+    seen-pairs-next request_view (λ p. p.items) (arranged_pair numbers) given found k m c.index.result.now within has c.index-requests-k.is c.index.ensures (λ a. a.items) c.loop-k.arranged.items
+    c.push.new.self.items c.in_ok-arranged_request.field-0 c.loop-k.invariant (c.in_ok-arranged_request.ensures ∙ ap (arranged_request numbers (request_view m)) c.deref.ensures.value)
+    c.in_ok-push.ensures.items
 
 pub returns : goal.returns
 returns g c =
     let given = c.args.requests.now in
-    c.loop-k.invariant
-    ∙ ap (map (arranged_pair c.args.numbers.now)) (all-zipped (requests_view given) (map (λ p. p.items) c.in_ok-positions.positions.items) c.loop-k.k (past-view request_view given c.loop-k.k c.loop-k-test.false)
-    ∙ ap (zip (requests_view given)) c.in_ok-positions.ensures)
+    let k = c.loop-k.k in
+    let found = c.in_ok-positions.positions.items in
+    let past : min (length given) (length found) ≤ k = omega (arith, c.loop-k-test.false) in
+    all-pairs request_view (λ p. p.items) (arranged_pair c.args.numbers.now) given found k past (map (λ a. a.items) c.loop-k.arranged.items) c.loop-k.invariant _ c.in_ok-positions.ensures

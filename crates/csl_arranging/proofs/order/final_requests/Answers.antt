@@ -1,4 +1,4 @@
-use Rattle.std.proofs.Common.{◌≡◌, ap, refl, ◌∙◌}
+use Rattle.std.proofs.Common.{ap, refl, ◌∙◌}
 use Rattle.csl_arranging.specs.Order.{final_cites, final_request}
 use Rattle.csl_arranging.specs.Requests.{request_view}
 use Rattle.csl_arranging.proofs.Walking.{all-mapped, mapped-next, seen_final}

@@ -1,4 +1,4 @@
-use Rattle.std.proofs.Common.{◌≡◌, true, false, ap, length, map, subst, sym, ◌∙◌}
+use Rattle.std.proofs.Common.{◌≡◌, true, false, ap, subst, sym, ◌∙◌}
 use Rattle.std.specs.Prelude.{option_map}
 use Rattle.csl_arranging.specs.Requests.{requests_view as all_arranged_view}
 use Rattle.csl_assembly.specs.ByMeans.{bibliography_by_means, tasks_by_means}
@@ -9,7 +9,7 @@ use Rattle.csl_told_laws.specs.TellingLaws.{rounds_of}
 use Rattle.csl_driver.specs.CslAnswer.{cites_arranged, item_means, listed, listed_cites, numbers_by, told_citations}
 use Rattle.csl_driver.specs.CslParts.{all_located}
 use Rattle.csl_driver.specs.CslPromised.{IsExactlyCsl}
-use Rattle.csl_driver.specs.CslTasks.{csl_tasks, mention_tasks, told_item_tasks}
+use Rattle.csl_driver.specs.CslTasks.{csl_tasks, order_tasks, told_item_tasks}
 use Rattle.csl_driver.specs.DraftView.{job_in, table_in}
 use Rattle.csl_driver.specs.WriterTasks.{last_tasks, where_wanted}
 use Rattle.csl_driver.proofs.CslCost.{csl-count}
@@ -24,26 +24,10 @@ use Rattle.csl_writers.specs.Desk.{after, desk}
 use Rattle.csl_writers.specs.Writing.{asked_for, writing_of}
 use Rattle.csl_driver.proofs.draft.Draft.finish_csl.Goals as goal
 
-pub told_apart-requires : goal.told_apart-requires
-told_apart-requires g c =
-    let draft = c.args.self in
-    record {
-      notes = ap (map (λ n. n.items)) c.deref.ensures.value ∙ c.in_ok-notes.ensures.notes (listed g.T.PartialEq.eq (job_in draft)) draft.known.listed;
-      counts = ap (map (λ n. length n.items)) c.deref.ensures.value ∙ c.in_ok-notes.ensures.counts;
-    }
-
-pub cites_in_order-requires : goal.cites_in_order-requires
-cites_in_order-requires g c =
-    let draft = c.args.self in
-    record {
-      notes = ap (map (λ n. n.items)) c.deref-2.ensures.value ∙ c.in_ok-notes.ensures.notes (listed g.T.PartialEq.eq (job_in draft)) draft.known.listed;
-      counts = ap (map (λ n. length n.items)) c.deref-2.ensures.value ∙ c.in_ok-notes.ensures.counts;
-    }
-
 pub arrange-requires : goal.arrange-requires
 arrange-requires g c =
     let draft = c.args.self in
-    record { cites = subst (AreCitesOf g.T.PartialEq.eq (table_in draft) (job_in draft).requests) (sym (ap renders_view c.deref_mut-cites.ensures.value)) c.in_ok-ordered.ensures.belong }
+    record { cites = subst (AreCitesOf g.T.PartialEq.eq (table_in draft) (job_in draft).requests) (sym (ap renders_view c.deref_mut-cites.ensures.value)) c.in_ok-told.ensures.belong }
 
 pub told_bibliography-requires : goal.told_bibliography-requires
 told_bibliography-requires g c = record { cites = c.in_ok-numbers.ensures.belong }
@@ -64,7 +48,7 @@ returns g c =
     let written_ok = c.in_ok-citations.ensures.agreed way ok in
     let told_ok = c.in_ok-bibliography.ensures.agreed way written_ok in
     let start = desk (g.W.CiteWriter.state c.args.writer.now way) c.new-counter.result in
-    let told = desk (g.W.CiteWriter.state c.told_apart.new.writer way) c.told_apart.new.counter in
+    let told = desk (g.W.CiteWriter.state c.told_in_order.new.writer way) c.told_in_order.new.counter in
     let written = desk (g.W.CiteWriter.state c.told_bibliography.new.writer way) c.told_bibliography.new.counter in
     let end = desk (g.W.CiteWriter.state c.told_citations.new.writer way) c.told_citations.new.counter in
     let writing = writing_of answers (g.W.CiteWriter.state c.args.writer.now way) in
@@ -73,19 +57,19 @@ returns g c =
     let by_suffixes = c.in_ok-told.told.suffixes.items in
     let account = c.in_ok-account.ensures in
     let cites = renders_view c.arrange.new.cites in
-    let before = ap renders_view c.deref_mut-cites.ensures.value ∙ c.in_ok-ordered.ensures.cites writing apart in
-    let finals = ap (λ rs. all_located (all_arranged_view rs)) c.deref-3.ensures.value ∙ c.in_ok-ordered.ensures.ordered writing apart in
+    let before = ap renders_view c.deref_mut-cites.ensures.value ∙ c.in_ok-told.ensures.cites way told_ok in
+    let finals = ap (λ rs. all_located (all_arranged_view rs)) c.deref.ensures.value ∙ c.in_ok-told.ensures.ordered way told_ok in
     let numbers = c.in_ok-numbers.ensures.numbers ∙ ap (numbers_by eq job) before in
     let arranged = arranged-told eq peq writing job before finals numbers c.in_ok-numbers.ensures.cites in
-    let mentions_asked = mention_tasks eq job writing in
+    let order_asked = order_tasks eq job writing peq in
     let items_asked = told_item_tasks eq job writing peq in
     let last_asked = last_tasks (cites_arranged eq job writing peq) in
     let told_is = c.in_ok-told.ensures.asked way told_ok in
     let written_is = c.in_ok-bibliography.ensures.asked way written_ok ∙ ap (λ fs. after (where_wanted wanted (tasks_by_means source fs)) told) (same-firsts eq peq writing job apart arranged) in
     let end_is = c.in_ok-citations.ensures.asked way ok ∙ ap (λ cs. after (last_tasks cs) written) arranged in
-    let all = three-steps answers mentions_asked items_asked last_asked start told written end told_is written_is end_is in
-    let same_told = writes-same answers mentions_asked start told told_is in
-    let same_written = same-behind answers mentions_asked items_asked last_asked start told written end told_is written_is end_is in
+    let all = three-steps answers order_asked items_asked last_asked start told written end told_is written_is end_is in
+    let same_told = writes-same answers order_asked start told told_is in
+    let same_written = same-behind answers order_asked items_asked last_asked start told written end told_is written_is end_is in
     let firsts = listed_cites eq (item_means by_states by_suffixes) cites (listed eq job) in
     let count = csl-count eq g.met.T.Eq.laws peq writing job (table_in draft) draft.known.table
     (subst (AreCitesOf eq (table_in draft) job.requests) arranged c.in_ok-numbers.ensures.belong)
