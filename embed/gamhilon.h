@@ -132,9 +132,9 @@ uint32_t gamhilon_render_json(const uint8_t *document, size_t document_length,
  *   `citationItems`, and maybe `citationID` and `properties` with `noteIndex` and `unsorted`. A
  *   cite is an object with `id`, and maybe `locator`, `label`, `prefix`, `suffix`,
  *   `suppress-author`, `author-only`, `hidden` and `note` (docs/WRITER.md).
- * - `options`: a JSON object of `locale`, a language tag that stands in place of the style's, and
- *   `nocite`: where it is true, items that aren't cited are listed too. Other keys are refused. An
- *   empty text is an empty object.
+ * - `options`: a JSON object of `locale`, a language tag that stands in place of the style's;
+ *   `nocite`: where it is true, items that aren't cited are listed too; and `abbreviations`, short
+ *   forms of texts (docs/STYLE_FILES.md). Other keys are refused. An empty text is an empty object.
  *
  * Answers may be longer than the texts: a first buffer of 64 KiB and eight times the length of
  * items and citations together will mostly do.

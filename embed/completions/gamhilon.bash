@@ -52,12 +52,14 @@ _gamhilon() {
         cite:--locale) _gamhilon_offer "$@" nothing ;;
         cite:--styles) _gamhilon_offer "$@" folders ;;
         cite:--locales) _gamhilon_offer "$@" folders ;;
+        cite:--abbreviations) _gamhilon_offer "$@" files ;;
         cite:--to) _gamhilon_offer "$@" words text html json ;;
         cite:--references) _gamhilon_offer "$@" files ;;
         bibliography:--style) _gamhilon_offer "$@" styles ;;
         bibliography:--locale) _gamhilon_offer "$@" nothing ;;
         bibliography:--styles) _gamhilon_offer "$@" folders ;;
         bibliography:--locales) _gamhilon_offer "$@" folders ;;
+        bibliography:--abbreviations) _gamhilon_offer "$@" files ;;
         bibliography:--to) _gamhilon_offer "$@" words text html json ;;
         bibliography:--references) _gamhilon_offer "$@" files ;;
         render:--to) _gamhilon_offer "$@" words text json ;;
@@ -65,9 +67,9 @@ _gamhilon() {
         render:--elements) _gamhilon_offer "$@" nothing ;;
         *)
             case $command:$current in
-                cite:-*) _gamhilon_offer "$@" words --style --locale --styles --locales --to --standalone --nocite --references --with-bibliography -h --help ;;
+                cite:-*) _gamhilon_offer "$@" words --style --locale --styles --locales --abbreviations --to --standalone --nocite --references --link-citations --with-bibliography -h --help ;;
                 cite:*) _gamhilon_offer "$@" files ;;
-                bibliography:-*) _gamhilon_offer "$@" words --style --locale --styles --locales --to --standalone --nocite --references -h --help ;;
+                bibliography:-*) _gamhilon_offer "$@" words --style --locale --styles --locales --abbreviations --to --standalone --nocite --references -h --help ;;
                 bibliography:*) _gamhilon_offer "$@" files ;;
                 render:-*) _gamhilon_offer "$@" words --to --depth --elements -h --help ;;
                 render:*) _gamhilon_offer "$@" files ;;

@@ -103,6 +103,7 @@ VAN_GOGH = {**PAGE, 'author': [{'family': 'Gogh', 'given': 'Vincent', 'dropping-
                                 'suffix': 'Jr.'}]}
 PARTED_NAMES = ('<group delimiter=" / "><names variable="author"><name>%s</name></names>'
                 '<names variable="author"><name name-as-sort-order="all">%s</name></names></group>')
+LABELLED = [person('a', 'Doe', 'Jane', 1999, title='A'), person('b', 'Doe', 'Jane', 1999, title='B')]
 FOUR = [several('one', 2000, 'Ape', 'Bee', 'Cat', 'Dog')]
 
 CASES = [
@@ -181,6 +182,13 @@ CASES = [
     cite('later cites', 'Name: `et-al-subsequent-min` is for cites behind the first', names('form="short" and="text"'), FOUR,
          ['Ape, Bee, Cat, and Dog', 'Ape et al.'], [cites('one'), cites('one')],
          in_citation='et-al-min="6" et-al-use-first="1" et-al-subsequent-min="3" et-al-subsequent-use-first="1"'),
+    *[cite('and others' + how, 'pandoc: a last name `others`, as BibTeX has it, is et al., with the delimiter before that',
+           names('and="text"' + options), [{**PAGE, 'author': [*told, {'literal': 'others'}]}], [wanted])
+      for how, options, told, wanted in (
+          (' of one name', '', [{'family': 'Ape'}], 'Ape et al.'),
+          (' of two names', '', [{'family': 'Ape'}, {'family': 'Bee'}], 'Ape, Bee, et al.'),
+          (' that are cut', ' et-al-min="3" et-al-use-first="1"', [{'family': 'Ape'}, {'family': 'Bee'}], 'Ape et al.'),
+          (' alone', '', [], 'others'))],
     cite('initials', 'Name: `initialize-with`', names('initialize-with=". "'), [BOOK], ['J. A. Roe']),
     cite('initials without periods', 'Name: `initialize-with=""`', names('initialize-with=""'), [BOOK], ['JA Roe']),
     cite('hyphens of initials', 'Global Options: `initialize-with-hyphen` is true', names('initialize-with="."'),
@@ -217,6 +225,14 @@ CASES = [
     cite('what stood in is left out', 'Substitute: a variable that stood in is left out in the rest',
          '<group delimiter=". ">' + names('', more='<substitute><text variable="title"/></substitute>') + TEXT +
          '<text variable="URL"/></group>', [PAGE], ['Nobody. https://example.org/nobody']),
+    *[cite('%s that stood in' % what, 'Substitute: a variable that stood in is left out in the rest, and a test finds it empty',
+           '<group delimiter=" / ">' + names('', more='<substitute>%s</substitute>' % element) + element + '<choose><if %s="%s">'
+           '<text value="there"/></if></choose>' % (test, variable) + TEXT + '</group>', [{**PAGE, 'volume': '4', 'genre': 'Sketch'}],
+           [wanted])
+      for what, element, test, variable, wanted in (
+          ('a number', '<number variable="volume"/>', 'variable', 'volume', '4 / Nobody'),
+          ('a number that is numeric', '<number variable="volume"/>', 'is-numeric', 'volume', '4 / Nobody'),
+          ('a text', '<text variable="genre"/>', 'variable', 'genre', 'Sketch / Nobody'))],
     cite('editor and translator', 'Names: where both variables have the same names, these are written once, with the term for both',
          '<names variable="editor translator" delimiter="; "><name form="short"/><label form="short" prefix=", "/></names>',
          [{**PAGE, 'editor': [{'family': 'Moe'}], 'translator': [{'family': 'Moe'}]}], ['Moe, ed. & tran.']),
@@ -291,6 +307,16 @@ CASES = [
     cite('a label of any names', 'citeproc-js, pandoc: `citation-label` of an item with names of another kind',
          '<text variable="citation-label"/>',
          [{'id': 'page', 'type': 'song', 'composer': [{'family': 'Bach'}], 'issued': {'date-parts': [[1749]]}}], ['Bach49']),
+    cite('a label behind a date', 'docs/WRITER.md: a label has the suffix of the year also where the date before it has that',
+         '<group delimiter=" / ">' + names('form="short"') + YEAR + '<text variable="citation-label"/></group>', LABELLED,
+         ['Doe / 1999a / Doe99a', 'Doe / 1999b / Doe99b'], [cites('a'), cites('b')],
+         in_citation='disambiguate-add-year-suffix="true"'),
+    cite('a label of a cite', 'citeproc-js: `citation-label` has the suffix of the year',
+         '<text variable="citation-label"/>', LABELLED, ['Doe99a', 'Doe99b'], [cites('a'), cites('b')],
+         in_citation='disambiguate-add-year-suffix="true"'),
+    cite('a label of names with others', 'docs/WRITER.md: a label has letters of the names that are told', '<text variable="citation-label"/>',
+         [{'id': 'page', 'type': 'book', 'author': [{'family': 'Bach'}, {'literal': 'others'}], 'issued': {'date-parts': [[1749]]}}],
+         ['Bach49']),
     # Page ranges
     cite('pages expanded', 'Appendix, Page Range Formats: expanded', '<text variable="page"/>', [{**PAPER, 'page': '321-28'}],
          ['321–328'], options='page-range-format="expanded"'),
@@ -376,6 +402,12 @@ CASES = [
     # Text cases and formatting
     cite('a title in capitals', 'Text-case: `title`; small words stay, but for the first', '<text variable="title" text-case="title"/>',
          [{**BOOK, 'title': 'the art of rivers and lakes'}], ['The Art of Rivers and Lakes']),
+    cite('the language of an item, with an underscore', 'Text-case: `title` is for items in English', '<text variable="title" text-case="title"/>',
+         [{**BOOK, 'language': 'EN_us'}, {**BOOK, 'id': 'b', 'language': 'de_DE'}], ['The Art of Rivers', 'the art of rivers'],
+         [cites('book'), cites('b')], options='default-locale="de-DE"'),
+    cite('an own locale, with an underscore', 'Locale: a style’s own term goes before that of the locale file', '<text term="and"/>', [PAGE],
+         ['plus'], locale='<locale xml:lang="DE_de"><terms><term name="and">plus</term></terms></locale>',
+         options='default-locale="de_DE"'),
     cite('a name in capitals', 'pandoc, citeproc-js: `title` leaves a text in capitals as it is', '<text variable="title" text-case="title"/>',
          [{**PAGE, 'title': 'PLOS ONE'}], ['PLOS ONE']),
     cite('a compound', 'citeproc-js: in running text a small word before a hyphen has a capital', '<text variable="title" text-case="title"/>',

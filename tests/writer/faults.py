@@ -23,6 +23,8 @@ LOCALE = ('<locale xmlns="http://purl.org/net/xbiblio/csl" version="1.0" xml:lan
 DEPENDENT = ('<style xmlns="http://purl.org/net/xbiblio/csl" version="1.0"><info><title>D</title><id>D</id>'
              '<link href="http://www.zotero.org/styles/s" rel="independent-parent"/><updated>2026-01-01T00:00:00+00:00</updated>'
              '</info></style>')
+JOURNAL = '[{"id": "a", "type": "article-journal", "title": "A", "container-title": "Journal of Lakes"}]'
+ABBREVIATIONS = '{"default": {"container-title": {"journal of lakes": "J. Lakes"}, "hereinafter": {"x": "y"}}, "us": 1}'
 MARK = b'\xef\xbb\xbf'
 # Lists that nest one level too deep: the reader stops behind the bracket that opens it.
 DEEP = '[' * 128 + ']' * 128
@@ -101,6 +103,13 @@ def cited(name, status, lines, out='', given=None, words=('--style', 'FILE/s.csl
 
 def usage(name, why, *words):
     return Fault(name, list(words), 64, ['gamhilon: ' + why + HELP])
+
+
+def abbreviated(name, status, lines, abbreviations, out='', references=JOURNAL, form='short'):
+    """A call of `cite` in a style that writes titles of journals, with a file of abbreviations."""
+    layout = '<text variable="container-title" form="%s"/>' % form
+    return Fault(name, ['cite', '--style', 'FILE/s.csl', '--abbreviations', 'FILE/a.json', 'FILE/r.json', 'FILE/c.json'], status, lines,
+                 {'s.csl': style_of(layout), 'r.json': references, 'a.json': abbreviations}, out=out)
 
 
 def rendered(name, status, lines, document, out='', words=()):
@@ -296,6 +305,13 @@ FAULTS = [
           {'s.csl': style_of(TITLE)}, out=page('Citations', BOTH)),
     Fault('HTML of both', ['cite', '--with-bibliography', '--style', 'FILE/s.csl', '--to', 'html', 'FILE/r.json', 'FILE/c.json'], 0, [],
           {'s.csl': style_of(TITLE)}, out=BOTH),
+    Fault('cites that lead to their items', ['cite', '--link-citations', '--style', 'FILE/s.csl', '--to', 'html', 'FILE/r.json',
+                                             'FILE/c.json'], 0, [], {'s.csl': style_of(TITLE)}, out='<a href="#ref-a">A</a>\n'),
+    Fault('a cite that leads elsewhere', ['cite', '--link-citations', '--style', 'FILE/s.csl', '--to', 'html', 'FILE/r.json', 'FILE/c.json'],
+          0, [], {'s.csl': style_of('<text variable="DOI"/>'), 'r.json': '[{"id": "a", "type": "book", "DOI": "10.1234/x"}]'},
+          out='<a href="https://doi.org/10.1234/x">10.1234/x</a>\n'),
+    Fault('links of cites in text', ['cite', '--link-citations', '--style', 'FILE/s.csl', 'FILE/r.json', 'FILE/c.json'], 0, [],
+          {'s.csl': style_of(TITLE)}, out='A\n'),
     Fault('a page from right to left', ['cite', '--style', 'FILE/s.csl', '--locale', 'ar', '--locales', 'FILE', '--standalone', 'FILE/r.json',
                                         'FILE/c.json'], 0, [], {'locales-ar.xml': LOCALE.replace('de-DE', 'ar')},
           out=page('Citations', '<p class="citation">A</p>\n', 'ar', 'rtl')),
@@ -303,6 +319,32 @@ FAULTS = [
           0, ['…'], out=page('Citations', '<p class="citation">A</p>\n', 'und')),
     Fault('a language', ['cite', '--style', 'FILE/s.csl', '--locale', 'de-DE', '--locales', 'FILE', 'FILE/r.json', 'FILE/c.json'], 0, [],
           {'s.csl': style_of('<text term="and"/>'), 'locales-de-DE.xml': LOCALE}, out='und\n'),
+    *[Fault('a language written as ' + tag, ['cite', '--style', 'FILE/s.csl', '--locale', tag, '--locales', 'FILE', 'FILE/r.json',
+                                             'FILE/c.json'], 0, [],
+            {'s.csl': style_of('<text term="and"/>'), 'locales-de-DE.xml': LOCALE}, out='und\n') for tag in ('de_DE', 'DE-de', 'de')],
+    Fault('a language of a style, with an underscore', ['cite', '--style', 'FILE/s.csl', '--locales', 'FILE', 'FILE/r.json', 'FILE/c.json'],
+          0, [], {'s.csl': style_of('<text term="and"/>').replace(' version', ' default-locale="DE_de" version'),
+                  'locales-de-DE.xml': LOCALE}, out='und\n'),
+    Fault('a page of a language, with an underscore', ['cite', '--style', 'FILE/s.csl', '--locale', 'de_de', '--locales', 'FILE',
+                                                       '--standalone', 'FILE/r.json', 'FILE/c.json'], 0, [],
+          {'locales-de-DE.xml': LOCALE}, out=page('Citations', '<p class="citation">A</p>\n', 'de-DE')),
+    abbreviated('abbreviations', 0, [], ABBREVIATIONS, 'J. Lakes\n'),
+    abbreviated('abbreviations behind a byte order mark', 0, [], MARK + ABBREVIATIONS.encode(), 'J. Lakes\n'),
+    abbreviated('abbreviations of the long form', 0, [], ABBREVIATIONS, 'Journal of Lakes\n', form='long'),
+    abbreviated('a short form of an item beside abbreviations', 0, [], ABBREVIATIONS, 'Lakes\n',
+                JOURNAL.replace('"Journal', '"Journal of Lakes", "container-title-short": "Lakes", "note": "Journal')),
+    abbreviated('abbreviations of other titles', 0, [], '{"default": {"container-title": {"Lakes": "L."}}}', 'Journal of Lakes\n'),
+    abbreviated('abbreviations that are a list', 2, ['FILE/a.json: error: wanted an object of abbreviations with a key `default`'], '[]'),
+    abbreviated('abbreviations of no variables', 2, ['FILE/a.json: error: /default: wanted an object of variables'], '{"default": []}'),
+    abbreviated('abbreviations of nothing', 2, ['FILE/a.json: error: /default/container-title: wanted an object of short forms'],
+                '{"default": {"container-title": "J."}}'),
+    abbreviated('an abbreviation that is a number', 2,
+                ['FILE/a.json: error: /default/container-title/Lakes: wanted a short form, which is a text'],
+                '{"default": {"container-title": {"Lakes": 1}}}'),
+    abbreviated('abbreviations that are no JSON', 2, ['FILE/a.json:2:1: error: no JSON: …'], '{"default":\nx}'),
+    abbreviated('abbreviations that are no UTF-8', 2, ['FILE/a.json:2:1: error: no UTF-8 from byte 2'], b'{\n\xff}'),
+    Fault('abbreviations that are not there', ['cite', '--style', 'FILE/s.csl', '--abbreviations', 'FILE/a.json', 'FILE/r.json',
+                                               'FILE/c.json'], 1, ['FILE/a.json: …']),
     Fault('a language without a file', ['cite', '--style', 'FILE/s.csl', '--locale', 'de-DE', '--locales', 'FILE', 'FILE/r.json', 'FILE/c.json'],
           0, ['gamhilon: warning: no locale file of de-DE is there'], {'s.csl': style_of('<text term="and"/>')}, out='and\n'),
     Fault('a locale file that is a folder', ['cite', '--style', 'FILE/s.csl', '--locale', 'de-DE', '--locales', 'FILE', 'FILE/r.json',

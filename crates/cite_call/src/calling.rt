@@ -47,6 +47,7 @@ fn answer_of(
         locale,
         references: &document.references,
         citations: &document.citations,
+        abbreviations: document.abbreviations.as_ref(),
         lists_items: true,
     };
     match asked.answer(alloc) {

@@ -5,6 +5,8 @@ use crate::reader::TextReader;
 use crate::texts::CallTexts;
 use cite_host::cites::Citation;
 use cite_json::listing::uncited;
+use cite_locale::tags::usual_tag;
+use cite_walk::abbreviations::Abbreviations;
 use csl_references::reference::References;
 use std::alloc::{AllocError, Global};
 use style_file::locale::LocaleFile;
@@ -21,6 +23,7 @@ pub(crate) struct CallDocument {
     pub locales: Vec<LocaleFile>,
     pub references: References,
     pub citations: Vec<Citation>,
+    pub abbreviations: Option<Abbreviations>,
     /// How many of the citations are the caller's, and not there to list items alone.
     pub shown: usize,
 }
@@ -45,26 +48,28 @@ impl TextReader {
             let uncited = uncited(alloc, &references, &citations)?;
             citations.push(uncited)?;
         }
+        let CallOptions { abbreviations, .. } = options;
         Ok(CallDocument {
             style,
             language,
             locales,
             references,
             citations,
+            abbreviations,
             shown,
         })
     }
 }
 
-/// The language of a document: that of the options, or else of the style.
+/// The tag of a document's language: that of the options, or else of the style.
 fn language_of(
     alloc: Global,
     options: &CallOptions,
     style: &CslStyle,
 ) -> Result<String, AllocError> {
-    match (&options.language, &style.default_locale) {
-        (Some(language), _) => language.clone(),
-        (None, Some(language)) => language.clone(),
-        (None, None) => String::from_str(alloc, LANGUAGE),
-    }
+    let told = options
+        .language
+        .as_deref()
+        .or(style.default_locale.as_deref());
+    usual_tag(alloc, told.unwrap_or(LANGUAGE))
 }

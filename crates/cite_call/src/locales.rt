@@ -5,9 +5,10 @@ use crate::reader::TextReader;
 use crate::remark::TextPlace;
 use crate::style::file_refusal;
 use crate::texts::TextName;
+use cite_locale::tags::is_same_tag;
 use english_locale::words::ENGLISH;
 use std::alloc::{AllocError, Global};
-use style_file::fallback::{LocaleSource, is_same_language, lookup_order};
+use style_file::fallback::{LocaleSource, lookup_order};
 use style_file::locale::LocaleFile;
 use style_reader::file::read_locale;
 
@@ -95,7 +96,7 @@ fn no_text(alloc: Global, place: usize) -> CallError {
 /// Whether one of the files is of this language.
 fn has_file(files: &[LocaleFile], language: &str) -> bool {
     for file in files {
-        if is_same_language(file.language.as_str(), language) {
+        if is_same_tag(file.language.as_str(), language) {
             return true;
         }
     }
@@ -107,7 +108,7 @@ fn has_file(files: &[LocaleFile], language: &str) -> bool {
 fn has_words(alloc: Global, files: &[LocaleFile], language: &str) -> Result<bool, AllocError> {
     for source in lookup_order(alloc, language)? {
         if let LocaleSource::File(tag) = source {
-            if is_same_language(without_dialect(tag), without_dialect(language))
+            if is_same_tag(without_dialect(tag), without_dialect(language))
                 && has_file(files, tag)
             {
                 return Ok(true);

@@ -3,6 +3,8 @@ use crate::error::{CallError, refusal};
 use crate::json::{json_value, wrong_part};
 use crate::remark::TextPlace;
 use crate::texts::TextName;
+use cite_json::abbreviations::{AbbreviationsError, abbreviations_of};
+use cite_walk::abbreviations::Abbreviations;
 use csl_json::fault::{Pointer, Step};
 use serde_json::Value;
 use std::alloc::{AllocError, Global};
@@ -14,6 +16,8 @@ pub(crate) struct CallOptions {
     pub language: Option<String>,
     /// Whether items are listed that no cite is of.
     pub lists_all: bool,
+    /// Short forms of texts, beside those of the items.
+    pub abbreviations: Option<Abbreviations>,
 }
 
 /// The options that a text has. An empty text has none.
@@ -25,6 +29,7 @@ pub(crate) fn options_of(alloc: Global, bytes: &[u8]) -> Result<CallOptions, Cal
     let mut options = CallOptions {
         language: None,
         lists_all: false,
+        abbreviations: None,
     };
     if bytes.is_empty() {
         return Ok(options);
@@ -62,12 +67,26 @@ fn set_option(
             Value::Bool(lists_all) => options.lists_all = *lists_all,
             _ => return Err(wrong_option(alloc, key, "wanted true or false")),
         },
+        "abbreviations" => options.abbreviations = Some(abbreviations_in(alloc, value)?),
         _ => {
-            let why = "unknown key; the options are `locale` and `nocite`";
+            let why = "unknown key; the options are `locale`, `nocite` and `abbreviations`";
             return Err(wrong_option(alloc, key, why));
         }
     }
     Ok(())
+}
+
+/// The abbreviations that the value is.
+fn abbreviations_in(alloc: Global, value: &Value) -> Result<Abbreviations, CallError> {
+    match abbreviations_of(alloc, value) {
+        Ok(abbreviations) => Ok(abbreviations),
+        Err(AbbreviationsError::Fault(fault)) => {
+            let pointer = &fault.pointer;
+            let pointer = format!(in alloc; "/abbreviations{pointer}")?;
+            Err(wrong_part(alloc, TextName::Options, &pointer, &fault.wanted))
+        }
+        Err(AbbreviationsError::OutOfMemory) => Err(CallError::OutOfMemory),
+    }
 }
 
 fn wrong_option(alloc: Global, key: &str, why: &'static str) -> CallError {

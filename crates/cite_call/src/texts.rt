@@ -13,7 +13,8 @@ pub struct CallTexts<'t> {
     /// A JSON list of citations, which are lists of cites.
     pub citations: &'t [u8],
     /// A JSON object of options; an empty text stands for an empty object. `locale` is a language
-    /// tag, in place of the style's language; where `nocite` is true, all items are listed.
+    /// tag, in place of the style's language; where `nocite` is true, all items are listed;
+    /// `abbreviations` has short forms of texts (docs/STYLE_FILES.md).
     pub options: &'t [u8],
 }
 

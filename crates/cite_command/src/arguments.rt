@@ -46,8 +46,12 @@ pub struct Options {
     pub is_standalone: bool,
     /// Whether citations are followed by the bibliography.
     pub has_bibliography: bool,
+    /// Whether cites lead to their items, in HTML.
+    pub links_citations: bool,
     /// Whether references that aren't cited are listed.
     pub lists_uncited: bool,
+    /// The file of abbreviations.
+    pub abbreviations: Option<String>,
     /// The files of references: the one that is named as a file first, then those of
     /// `--references`.
     pub references: Vec<String>,

@@ -68,8 +68,11 @@ fn command<'a>(alloc: Global, verb: Verb) -> Result<Command<'a>, AllocError> {
 fn cite<'a>(alloc: Global) -> Result<Command<'a>, AllocError> {
     let citations = citations(alloc).required(true);
     let command = writing(alloc, "cite", "Prints each citation", citations)?;
+    let links = "Cites lead to their items, in HTML";
     let help = "The bibliography follows the citations";
-    command.arg(flag(alloc, "with-bibliography", help))
+    command
+        .arg(flag(alloc, "link-citations", links))?
+        .arg(flag(alloc, "with-bibliography", help))
 }
 
 fn bibliography<'a>(alloc: Global) -> Result<Command<'a>, AllocError> {
@@ -92,7 +95,7 @@ fn writing<'a>(
 }
 
 /// The options of a command that writes, and its files.
-fn words<'a>(alloc: Global, citations: Arg<'a>) -> [Arg<'a>; 10] {
+fn words<'a>(alloc: Global, citations: Arg<'a>) -> [Arg<'a>; 11] {
     let formats: &'a [&'a str] = &["text", "html", "json"];
     [
         style(alloc),
@@ -104,6 +107,12 @@ fn words<'a>(alloc: Global, citations: Arg<'a>) -> [Arg<'a>; 10] {
         ),
         valued(alloc, "styles", "FOLDER", "Where styles are"),
         valued(alloc, "locales", "FOLDER", "Where locale files are"),
+        valued(
+            alloc,
+            "abbreviations",
+            "FILE",
+            "Short forms, as of the titles of journals, in JSON",
+        ),
         form(alloc, formats),
         flag(alloc, "standalone", "A whole page of HTML"),
         flag(

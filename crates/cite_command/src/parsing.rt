@@ -95,6 +95,7 @@ fn styles_in(alloc: Global, words: &ArgMatches<'_>) -> Result<Command, CommandLi
 fn cite_options(alloc: Global, words: &ArgMatches<'_>) -> Result<Options, CommandLineError> {
     let mut options = options_in(alloc, words)?;
     options.has_bibliography = words.get_flag("with-bibliography");
+    options.links_citations = words.get_flag("link-citations");
     Ok(options)
 }
 
@@ -108,7 +109,9 @@ fn options_in(alloc: Global, words: &ArgMatches<'_>) -> Result<Options, CommandL
         format: format_in(words),
         is_standalone: words.get_flag("standalone"),
         has_bibliography: false,
+        links_citations: false,
         lists_uncited: words.get_flag("nocite"),
+        abbreviations: text_at(alloc, words, "abbreviations")?,
         references: references_in(alloc, words)?,
         citations: text_at(alloc, words, "CITATIONS")?,
     })
@@ -191,8 +194,10 @@ fn inputs(options: &Options) -> usize {
     if options.style.as_str() == "-" {
         inputs = inputs.saturating_add(1);
     }
-    if options.citations.as_deref() == Some("-") {
-        inputs = inputs.saturating_add(1);
+    for path in [&options.citations, &options.abbreviations] {
+        if path.as_deref() == Some("-") {
+            inputs = inputs.saturating_add(1);
+        }
     }
     inputs
 }

@@ -15,6 +15,7 @@ use cite_pieces::piece::Wrap;
 use cite_pieces::pieces::Pieces;
 use cite_pieces::punctuation::punctuated;
 use cite_trees::streams::{cites_of, stream_of, stream_of_child};
+use cite_walk::abbreviations::Abbreviations;
 use csl_base::entry::PlainEntry;
 use csl_base::style::IndependentStyle;
 use csl_driver::error::DriverError;
@@ -31,6 +32,8 @@ pub struct Document<'d> {
     pub locale: &'d LocaleChain<'d>,
     pub references: &'d References,
     pub citations: &'d [Citation],
+    /// Short forms of texts, where there are some beside those of the references.
+    pub abbreviations: Option<&'d Abbreviations>,
     /// Whether the items of the bibliography are wanted. Order, numbers and suffixes follow it in
     /// any case.
     pub lists_items: bool,
@@ -68,6 +71,7 @@ impl<'d> Document<'d> {
             style: self.style,
             locale: self.locale,
             programs: &programs,
+            abbreviations: self.abbreviations,
         };
         let items = Items::cited(alloc, setting, self.references, self.citations)?;
         let citations = sorted_citations(alloc, setting, &items, self.citations)?;

@@ -2,6 +2,7 @@
 use crate::programs::{BibliographyProgram, Programs};
 use cite_locale::chain::LocaleChain;
 use cite_sorting::keys::KeyScene;
+use cite_walk::abbreviations::Abbreviations;
 use cite_walk::cite::{Scene, SceneKind};
 use style_file::style::CslStyle;
 
@@ -11,6 +12,8 @@ pub(crate) struct Setting<'s> {
     pub style: &'s CslStyle,
     pub locale: &'s LocaleChain<'s>,
     pub programs: &'s Programs<'s>,
+    /// Short forms of texts, where the document brings some.
+    pub abbreviations: Option<&'s Abbreviations>,
 }
 
 impl<'s> Setting<'s> {
@@ -28,6 +31,7 @@ impl<'s> Setting<'s> {
             names: &self.style.citation.names,
             kind: SceneKind::Cite,
             adds_year_suffix: self.programs.adds_year_suffix,
+            abbreviations: self.abbreviations,
         }
     }
 
@@ -40,6 +44,7 @@ impl<'s> Setting<'s> {
             names: &bibliography.section.names,
             kind: SceneKind::Item,
             adds_year_suffix: self.programs.adds_year_suffix,
+            abbreviations: self.abbreviations,
         }
     }
 
@@ -49,6 +54,7 @@ impl<'s> Setting<'s> {
             style: self.style,
             locale: self.locale,
             names: &self.style.citation.names,
+            abbreviations: self.abbreviations,
         }
     }
 
@@ -58,6 +64,7 @@ impl<'s> Setting<'s> {
             style: self.style,
             locale: self.locale,
             names: &bibliography.section.names,
+            abbreviations: self.abbreviations,
         }
     }
 }

@@ -1,12 +1,13 @@
 //! Chains of locales (CSL 1.0.2, Locale Fallback).
 use crate::indexed::IndexedLocale;
+use crate::tags::{is_same_tag, usual_tag};
 use csl_texts::alphabets::{OwnLetter, own_letters};
 use csl_texts::cases::Language;
 use csl_texts::quotes::QuoteMarks;
 use csl_vocabulary::term::{PlainTerm, TermForm};
 use std::alloc::{AllocError, Global};
 use style_file::date::DateForm;
-use style_file::fallback::{LocaleSource, is_same_language, lookup_order};
+use style_file::fallback::{LocaleSource, lookup_order};
 use style_file::locale::{LocaleDate, LocaleFile, StyleLocale};
 
 /// The locales in which the words of a language are looked for, in their order.
@@ -20,7 +21,7 @@ pub struct LocaleChain<'a> {
 }
 
 impl<'a> LocaleChain<'a> {
-    /// The chain for a document in this language (a tag as `de-AT`): the style's own locales for it
+    /// The chain for a document in this language (a tag as `de-AT`, or `de_at`): the style's own locales for it
     /// and for all languages; then the locale files of the dialect, of the language's primary
     /// dialect, and of en-US.
     ///
@@ -34,9 +35,10 @@ impl<'a> LocaleChain<'a> {
         files: &'a [LocaleFile],
     ) -> Result<LocaleChain<'a>, AllocError> {
         let language = Language::of_tag(tag);
+        let usual = usual_tag(alloc, tag)?;
         let mut locales = Vec::new(alloc);
         let mut own = 0;
-        for source in lookup_order(alloc, tag)? {
+        for source in lookup_order(alloc, usual.as_str())? {
             match source {
                 LocaleSource::Style(tag) => {
                     push_of_style(alloc, &mut locales, of_style, Some(tag))?;
@@ -139,7 +141,7 @@ impl<'a> LocaleChain<'a> {
 /// Whether a source is the locale file that stands for all that others lack.
 fn is_of_english(source: LocaleSource<'_>) -> bool {
     match source {
-        LocaleSource::File(tag) => is_same_language(tag, "en-US"),
+        LocaleSource::File(tag) => is_same_tag(tag, "en-US"),
         LocaleSource::Style(_) | LocaleSource::StyleForAll => false,
     }
 }
@@ -153,7 +155,7 @@ fn push_of_style<'a>(
 ) -> Result<(), AllocError> {
     for own in of_style {
         let is_wanted = match (&own.language, language) {
-            (Some(tag), Some(language)) => is_same_language(tag.as_str(), language),
+            (Some(tag), Some(language)) => is_same_tag(tag.as_str(), language),
             (None, None) => true,
             _ => false,
         };
@@ -172,7 +174,7 @@ fn push_file<'a>(
     language: &str,
 ) -> Result<(), AllocError> {
     for file in files {
-        if is_same_language(file.language.as_str(), language) {
+        if is_same_tag(file.language.as_str(), language) {
             locales.push(IndexedLocale::new(alloc, &file.locale)?)?;
             return Ok(());
         }

@@ -6,4 +6,5 @@ pub mod chain;
 mod find;
 mod indexed;
 pub mod ordinals;
+pub mod tags;
 pub mod terms;

@@ -3,6 +3,7 @@
 
 pub mod forms;
 pub mod list;
+pub mod others;
 pub mod parts;
 pub mod person;
 pub mod rules;

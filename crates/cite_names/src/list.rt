@@ -1,5 +1,6 @@
 //! Lists of names (CSL 1.0.2, "Name" and "Et-al").
 use crate::forms::{form_of, written_names};
+use crate::others::told_names;
 use crate::parts::{PartRole, WrittenPart, may_be_inverted, parts_of};
 use crate::rules::NameRules;
 use crate::scripts::is_spaced;
@@ -35,7 +36,8 @@ pub struct NameList<'s, 'l> {
 }
 
 impl<'s> NameList<'s, '_> {
-    /// Writes names, each in its form.
+    /// Writes names, each in its form. A last one that stands for others is written as those that
+    /// are cut.
     ///
     /// # Errors
     ///
@@ -47,8 +49,9 @@ impl<'s> NameList<'s, '_> {
         names: &[Name],
         forms: &[DisambiguatedNameForm],
     ) -> Result<(), AllocError> {
-        let written = written_names(forms);
-        for (place, name) in names.iter().take(written).enumerate() {
+        let told = told_names(names);
+        let written = written_names(forms).min(told.len());
+        for (place, name) in told.iter().take(written).enumerate() {
             if place > 0 {
                 self.push_between(output, names, place)?;
             }
@@ -111,7 +114,8 @@ impl<'s> NameList<'s, '_> {
         names: &[Name],
         written: usize,
     ) -> Result<(), AllocError> {
-        if self.rules.use_last && written.saturating_add(2) <= names.len() {
+        let are_all_told = told_names(names).len() == names.len();
+        if self.rules.use_last && are_all_told && written.saturating_add(2) <= names.len() {
             return self.push_last(alloc, output, names);
         }
         if self.words.et_al.is_empty() {

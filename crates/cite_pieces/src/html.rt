@@ -7,10 +7,12 @@ use crate::tags::{Tag, Tags, opening_of_display};
 use csl_texts::lines::push_in_line;
 use csl_texts::quotes::QuoteMarks;
 use std::alloc::{AllocError, Global};
+use style_file::formatting::VerticalAlign;
 
 /// A stream as HTML: formatting as `i`, `b`, `sup`, `sub` and `span`, links as `a`, and what is set
-/// off as `div`. Neighbours with the same formatting share its tags. Marks show nothing. Of control
-/// characters, those that are white space are spaces, and the others are left out.
+/// off as `div`. Neighbours with the same formatting share its tags; a character that Unicode has
+/// above the line has that of superscripts. Marks show nothing. Of control characters, those that
+/// are white space are spaces, and the others are left out.
 ///
 /// # Errors
 ///
@@ -58,12 +60,19 @@ enum OpenWrap {
 }
 
 impl Page<'_> {
+    /// Writes a text, with references for the characters that HTML reads otherwise.
     fn push_text(&mut self, text: &str) -> Result<(), AllocError> {
-        if text.is_empty() {
-            return Ok(());
+        let mut was_above = None;
+        for c in text.chars() {
+            let base = base_of(c);
+            let is_above = base.is_some();
+            if was_above != Some(is_above) {
+                self.open_tags(is_above)?;
+                was_above = Some(is_above);
+            }
+            push_character(&mut self.text, base.unwrap_or(c))?;
         }
-        self.open_tags()?;
-        push_escaped(&mut self.text, text)
+        Ok(())
     }
 
     fn open(&mut self, wrap: &Wrap) -> Result<(), AllocError> {
@@ -84,12 +93,12 @@ impl Page<'_> {
                 OpenWrap::Quotes
             }
             Wrap::Link(url) => {
-                self.open_tags()?;
+                self.open_tags(false)?;
                 self.push_link(url.as_str())?;
                 OpenWrap::Link
             }
             Wrap::Display(display) => {
-                self.open_tags()?;
+                self.open_tags(false)?;
                 self.text.push_str(opening_of_display(*display))?;
                 self.tags.push(Tag::Block)?;
                 OpenWrap::Display
@@ -117,7 +126,7 @@ impl Page<'_> {
                 self.push_text(mark)
             }
             Some(OpenWrap::Link | OpenWrap::Display) => {
-                self.open_tags()?;
+                self.open_tags(false)?;
                 self.open.pop();
                 let around = self.tags.len().saturating_sub(1);
                 self.close_tags(around)
@@ -140,9 +149,13 @@ impl Page<'_> {
         formatting
     }
 
-    /// Closes and opens tags, until those are open that the wraps ask for.
-    fn open_tags(&mut self) -> Result<(), AllocError> {
-        let wanted = self.wanted_tags()?;
+    /// Closes and opens tags, until those are open that the wraps ask for, with that of what
+    /// stands above the line.
+    fn open_tags(&mut self, is_above: bool) -> Result<(), AllocError> {
+        let mut wanted = self.wanted_tags()?;
+        if is_above && self.formatting().vertical_align != VerticalAlign::Superscript {
+            wanted.push(Tag::Superscript)?;
+        }
         let shared = common(&self.tags, &wanted);
         self.close_tags(shared)?;
         for tag in wanted.iter().skip(shared) {
@@ -207,24 +220,6 @@ fn common(open: &[Tag], wanted: &[Tag]) -> usize {
         shared = shared.saturating_add(1);
     }
     shared
-}
-
-/// Appends a text, with references for the characters that HTML reads otherwise. Neighbours that
-/// Unicode has above the line stand in one `sup`.
-fn push_escaped(out: &mut String, text: &str) -> Result<(), AllocError> {
-    let mut is_above = false;
-    for c in text.chars() {
-        let base = base_of(c);
-        if base.is_some() != is_above {
-            is_above = base.is_some();
-            out.push_str(if is_above { "<sup>" } else { "</sup>" })?;
-        }
-        push_character(out, base.unwrap_or(c))?;
-    }
-    if is_above {
-        out.push_str("</sup>")?;
-    }
-    Ok(())
 }
 
 /// Appends the value of an attribute, in which quotes are references too.

@@ -3,11 +3,13 @@ use crate::collation::{CollationKey, SEPARATOR};
 use cite_dates::sorting::sorted_date;
 use cite_locale::chain::LocaleChain;
 use cite_names::forms::{form_of, own_forms, written_names};
+use cite_names::others::told_names;
 use cite_names::parts::{may_be_inverted, parts_of};
 use cite_names::rules::{HandedDown, NameRules};
 use cite_pieces::piece::Piece;
 use cite_pieces::pieces::Pieces;
 use cite_program::program::{Program, Step};
+use cite_walk::abbreviations::Abbreviations;
 use cite_walk::cite::{CiteFacts, Scene, SceneKind};
 use cite_walk::labels::label_of;
 use cite_walk::sorted::sorted_number;
@@ -72,6 +74,8 @@ pub struct KeyScene<'s> {
     pub locale: &'s LocaleChain<'s>,
     /// The options of names of the citation or the bibliography.
     pub names: &'s InheritedNameOptions,
+    /// Short forms of texts, where the document brings some.
+    pub abbreviations: Option<&'s Abbreviations>,
 }
 
 impl<'s> KeyScene<'s> {
@@ -115,6 +119,7 @@ impl<'s> KeyScene<'s> {
             names: self.names,
             kind: SceneKind::Key(key),
             adds_year_suffix: false,
+            abbreviations: self.abbreviations,
         };
         let written = write_cite(alloc, scene, cite)?;
         all_texts(alloc, &written.pieces)
@@ -131,7 +136,7 @@ impl<'s> KeyScene<'s> {
             Variable::Text(TextVariable::CitationLabel) => {
                 label_of(alloc, cite.reference)?.plain(alloc)
             }
-            Variable::Text(variable) => match cite.text(variable, false) {
+            Variable::Text(variable) => match cite.text(variable) {
                 Some(text) => text.plain(alloc),
                 None => Ok(String::new(alloc)),
             },
@@ -177,7 +182,8 @@ impl<'s> KeyScene<'s> {
         };
         let forms = own_forms(alloc, &rules, names.len())?;
         let mut text = String::new(alloc);
-        for name in names.iter().take(written_names(forms.as_slice())) {
+        let told = told_names(names);
+        for name in told.iter().take(written_names(forms.as_slice())) {
             push_name(alloc, &mut text, &rules, name, form_of(&rules))?;
         }
         Ok(text)

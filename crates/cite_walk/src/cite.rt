@@ -1,4 +1,5 @@
 //! What is known of a cite, and what comes of it.
+use crate::abbreviations::Abbreviations;
 use cite_locale::chain::LocaleChain;
 use cite_pieces::pieces::Pieces;
 use cite_program::program::Program;
@@ -23,6 +24,8 @@ pub struct Scene<'s> {
     pub kind: SceneKind,
     /// Whether a year suffix stands behind the first date.
     pub adds_year_suffix: bool,
+    /// Short forms of texts, where the document brings some.
+    pub abbreviations: Option<&'s Abbreviations>,
 }
 
 /// What is written.

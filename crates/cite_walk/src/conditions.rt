@@ -29,7 +29,9 @@ impl Walk<'_, '_> {
                 Ok(self.cite.disambiguates)
             }
             Test::IsNumeric(variable) => self.is_numeric(variable),
-            Test::IsUncertainDate(variable) => Ok(is_uncertain(&self.cite, variable)),
+            Test::IsUncertainDate(variable) => Ok(
+                is_uncertain(&self.cite, variable) && !self.is_suppressed(Variable::Date(variable)),
+            ),
             Test::Locator(kind) => Ok(
                 self.locator
                     .as_ref()
@@ -45,6 +47,9 @@ impl Walk<'_, '_> {
     }
 
     fn is_numeric(&self, variable: Variable) -> Result<bool, AllocError> {
+        if self.is_suppressed(variable) {
+            return Ok(false);
+        }
         let alloc = self.alloc();
         let plain = match variable {
             Variable::Number(variable) => match self.number_value(variable)? {

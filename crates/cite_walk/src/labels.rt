@@ -1,5 +1,6 @@
 //! Labels of items (CSL 1.0.2, the variable `citation-label`).
 use crate::values::plain_value;
+use cite_names::others::told_names;
 use csl_references::date::DateSpan;
 use csl_references::name::Name;
 use csl_references::reference::Reference;
@@ -18,7 +19,7 @@ pub fn label_of(alloc: Global, reference: &Reference) -> Result<RichText, AllocE
         return label.clone();
     }
     let mut label = String::new(alloc);
-    push_names(&mut label, names_of(reference))?;
+    push_names(&mut label, told_names(names_of(reference)))?;
     push_year(alloc, &mut label, reference)?;
     plain_value(alloc, label.as_str())
 }

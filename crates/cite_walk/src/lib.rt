@@ -1,6 +1,7 @@
 //! A cite or an item of a bibliography, written by the program of its layout.
 #![tactic(auto)]
 
+pub mod abbreviations;
 pub mod cite;
 mod conditions;
 mod dates;

@@ -3,6 +3,7 @@ use crate::cite::SceneKind;
 use crate::walk::Walk;
 use cite_names::forms::{own_forms, raise, written_names};
 use cite_names::list::{NameList, NameWords};
+use cite_names::others::told_names;
 use cite_names::person::person_of;
 use cite_names::rules::{HandedDown, NameRules};
 use cite_pieces::output::{Element, element_with};
@@ -134,7 +135,8 @@ impl<'s, 'c> Walk<'s, 'c> {
         let mut count = 0usize;
         for block in blocks {
             let forms = own_forms(alloc, rules, block.names.len())?;
-            count = count.saturating_add(written_names(forms.as_slice()));
+            let written = written_names(forms.as_slice()).min(told_names(block.names).len());
+            count = count.saturating_add(written);
         }
         let digits = match self.scene.kind {
             SceneKind::Key(_) => format!(in alloc; "{count:010}")?,

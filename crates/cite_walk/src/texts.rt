@@ -110,16 +110,16 @@ impl<'s> Walk<'s, '_> {
         if variable == TextVariable::CitationLabel {
             return self.write_citation_label(text);
         }
-        let Some(value) = self.cite.text(variable, is_short) else {
+        let Some(value) = self.text_value(variable, is_short)? else {
             self.call(false);
             return Ok(());
         };
         self.use_variable(Variable::Text(variable))?;
         if let Some(linked) = Linked::of_variable(variable) {
-            return self.write_link(text, linked, value);
+            return self.write_link(text, linked, value.text());
         }
         self.output.open(text_element(text))?;
-        self.output.push_rich(value)?;
+        self.output.push_rich(value.text())?;
         self.output.close()?;
         Ok(())
     }
@@ -168,7 +168,8 @@ impl<'s> Walk<'s, '_> {
         Ok(Some(letters_of_suffix(self.alloc(), suffix)?))
     }
 
-    /// Writes the label of the item, with the suffix of its year.
+    /// Writes the label of the item, with the suffix of its year, also where its date has that: the
+    /// label of an item of the bibliography is that of its cites.
     fn write_citation_label(&mut self, text: &'s Text) -> Result<(), AllocError> {
         let alloc = self.alloc();
         let label = label_of(alloc, self.cite.reference)?;
@@ -180,10 +181,23 @@ impl<'s> Walk<'s, '_> {
         })?;
         self.output.open(text_element(text))?;
         self.output.push_rich(&label)?;
-        self.write_implicit_suffix()?;
+        if self.has_written_suffix {
+            self.repeat_suffix()?;
+        } else {
+            self.write_implicit_suffix()?;
+        }
         self.output.close()?;
         self.output.close()?;
         Ok(())
+    }
+
+    /// Writes the suffix of the year once more.
+    fn repeat_suffix(&mut self) -> Result<(), AllocError> {
+        let Some(suffix) = self.cite.year_suffix else {
+            return Ok(());
+        };
+        let letters = letters_of_suffix(self.alloc(), suffix)?;
+        self.output.push_str(letters.as_str())
     }
 
     fn write_number_as_text(

@@ -63,15 +63,14 @@ fn styled_value(alloc: Global, text: &str, style: RunStyle) -> Result<RichText, 
 }
 
 impl<'c> CiteFacts<'c> {
-    /// The value of a text variable, or of its short form (CSL 1.0.2, the form `short`).
-    pub fn text(&self, variable: TextVariable, is_short: bool) -> Option<&'c RichText> {
-        if is_short {
-            let short = short_form(variable).and_then(|short| self.reference.text(short));
-            if short.is_some() {
-                return short;
-            }
-        }
+    /// The value of a text variable.
+    pub fn text(&self, variable: TextVariable) -> Option<&'c RichText> {
         self.reference.text(variable)
+    }
+
+    /// The short form that the item itself has of a text variable.
+    pub fn own_short_form(&self, variable: TextVariable) -> Option<&'c RichText> {
+        short_form(variable).and_then(|short| self.reference.text(short))
     }
 
     /// The value of a number variable.

@@ -183,6 +183,33 @@ impl<'s, 'c> Walk<'s, 'c> {
         }
     }
 
+    /// The value of a text variable; of its form `short` the item's own short form, or else an
+    /// abbreviation of the value, if there is one (CSL 1.0.2, "Text").
+    pub(crate) fn text_value(
+        &self,
+        variable: TextVariable,
+        is_short: bool,
+    ) -> Result<Option<Value<'c>>, AllocError> {
+        let whole = self.cite.text(variable);
+        if !is_short {
+            return Ok(whole.map(Value::Known));
+        }
+        if let Some(own) = self.cite.own_short_form(variable) {
+            return Ok(Some(Value::Known(own)));
+        }
+        match (whole, self.scene.abbreviations) {
+            (Some(whole), Some(abbreviations)) => {
+                let alloc = self.alloc();
+                let long = whole.plain(alloc)?;
+                match abbreviations.short_form(alloc, variable, long.as_str())? {
+                    Some(short) => Ok(Some(Value::Made(short.clone()?))),
+                    None => Ok(Some(Value::Known(whole))),
+                }
+            }
+            _ => Ok(whole.map(Value::Known)),
+        }
+    }
+
     /// The value of a number variable.
     pub(crate) fn number_value(
         &self,

@@ -1,4 +1,5 @@
 //! Citations and bibliographies.
+use crate::abbreviations::told_abbreviations;
 use crate::error::CommandError;
 use crate::files::bytes_of;
 use crate::json_causes::{behind_mark, json_refused};
@@ -17,6 +18,7 @@ use cite_json::listing::{citation_of_all, uncited};
 use cite_json::notes::number_notes;
 use cite_json::reading::{ReadCitations, read_citations};
 use cite_locale::chain::LocaleChain;
+use cite_walk::abbreviations::Abbreviations;
 use csl_references::reference::References;
 use std::alloc::{AllocError, Global};
 use std::rt::Files;
@@ -35,6 +37,15 @@ struct Cited {
     citations: Vec<Citation>,
     /// How many of them are the file's. One more, which isn't shown, cites what they don't.
     count: usize,
+}
+
+/// What the files of a command have.
+#[derive(Clone, Copy)]
+struct AskedDocument<'p> {
+    found: &'p FoundStyle,
+    references: &'p References,
+    cited: &'p Cited,
+    abbreviations: Option<&'p Abbreviations>,
 }
 
 /// Prints citations, and the bibliography where it is asked for.
@@ -72,9 +83,16 @@ fn print_answer(
     printed: Printed,
 ) -> Result<(), CommandError> {
     let found = style_of(rt, options)?;
+    let abbreviations = told_abbreviations(rt, options)?;
     let references = references_of(rt, options)?;
     let cited = citations_of(rt, options, &references)?;
-    print_document(rt, options, printed, &found, &references, &cited)
+    let asked = AskedDocument {
+        found: &found,
+        references: &references,
+        cited: &cited,
+        abbreviations: abbreviations.as_ref(),
+    };
+    print_document(rt, options, printed, asked)
 }
 
 /// The citations of the command; without a file of them one of all references.
@@ -132,36 +150,39 @@ pub(crate) fn citations_in(
     }
 }
 
-fn print_document<'p>(
+fn print_document(
+    rt: &(impl Files + Input + Print + Eprint + AllocGlobal),
+    options: &Options,
+    printed: Printed,
+    asked: AskedDocument<'_>,
+) -> Result<(), CommandError> {
+    let language = asked.found.language(rt.alloc(), options)?;
+    print_in_language(rt, options, printed, asked, language.as_str())
+}
+
+/// Prints what comes of a document in the language of this tag.
+fn print_in_language<'p>(
     rt: &(impl Files + Input + Print + Eprint + AllocGlobal),
     options: &'p Options,
     printed: Printed,
-    found: &'p FoundStyle,
-    references: &References,
-    cited: &Cited,
+    asked: AskedDocument<'p>,
+    language: &'p str,
 ) -> Result<(), CommandError> {
-    let language = found.language(options);
+    let style = &asked.found.style;
     let files = locales_of(rt, options, language)?;
-    let locale = LocaleChain::new(rt.alloc(), language, &found.style.locales, &files)?;
+    let locale = LocaleChain::new(rt.alloc(), language, &style.locales, &files)?;
     let is_whole = options.format == OutputFormat::Json;
     let lists_items = is_whole || printed != Printed::Citations;
-    let answer = answer_of(
-        rt.alloc(),
-        options,
-        found,
-        references,
-        cited,
-        &locale,
-        lists_items,
-    )?;
+    let answer = answer_of(rt.alloc(), options, asked, &locale, lists_items)?;
     let printing = Printing {
         options,
-        style: &found.style,
+        style,
+        citations: &asked.cited.citations,
         language,
         marks: locale.quote_marks(),
     };
     if is_whole {
-        return print_json(rt, &printing, &cited.citations, &answer);
+        return print_json(rt, &printing, &answer);
     }
     match printed {
         Printed::Citations => print_citations(rt, &printing, &answer),
@@ -174,22 +195,21 @@ fn print_document<'p>(
 fn answer_of(
     alloc: Global,
     options: &Options,
-    found: &FoundStyle,
-    references: &References,
-    cited: &Cited,
+    asked: AskedDocument<'_>,
     locale: &LocaleChain<'_>,
     lists_items: bool,
 ) -> Result<Answer, CommandError> {
     let document = Document {
-        style: &found.style,
+        style: &asked.found.style,
         locale,
-        references,
-        citations: &cited.citations,
+        references: asked.references,
+        citations: &asked.cited.citations,
+        abbreviations: asked.abbreviations,
         lists_items,
     };
     match document.answer(alloc) {
         Ok(mut answer) => {
-            answer.citations.truncate(cited.count);
+            answer.citations.truncate(asked.cited.count);
             Ok(answer)
         }
         Err(error) => Err(placed(alloc, options, error)?),

@@ -4,6 +4,7 @@
 //! it too (`CommandError::status`). What is odd in a file that is read gets a line there as well.
 #![tactic(auto)]
 
+mod abbreviations;
 mod checking;
 mod commands;
 mod document_error;
@@ -13,6 +14,7 @@ mod files;
 mod items;
 mod json_causes;
 mod json_syntax;
+mod linking;
 mod locales;
 mod near_styles;
 mod packaged;

@@ -1,5 +1,6 @@
 //! Answers are printed.
 use crate::error::CommandError;
+use crate::linking::with_links;
 use crate::page::{Page, anchor, begin_list};
 use cite_answer::printing::print_answer;
 use cite_command::arguments::{Options, OutputFormat};
@@ -18,6 +19,8 @@ use style_file::style::CslStyle;
 pub(crate) struct Printing<'p> {
     pub options: &'p Options,
     pub style: &'p CslStyle,
+    /// The citations of the document.
+    pub citations: &'p [Citation],
     /// The tag of the document's language.
     pub language: &'p str,
     pub marks: QuoteMarks<'p>,
@@ -152,11 +155,27 @@ fn citation_texts(
     answer: &Answer,
 ) -> Result<Vec<String>, AllocError> {
     let mut texts = Vec::new(alloc);
-    for citation in &answer.citations {
-        let text = shown(alloc, citation, printing.options.format, printing.marks)?;
-        texts.push(text)?;
+    for (place, citation) in answer.citations.iter().enumerate() {
+        texts.push(citation_text(alloc, printing, place, citation)?)?;
     }
     Ok(texts)
+}
+
+/// The text of the citation at a place; its cites lead to their items where links are asked for.
+fn citation_text(
+    alloc: Global,
+    printing: &Printing<'_>,
+    place: usize,
+    citation: &Pieces,
+) -> Result<String, AllocError> {
+    let format = printing.options.format;
+    if printing.options.links_citations && format == OutputFormat::Html {
+        if let Some(asked) = printing.citations.get(place) {
+            let citation = with_links(alloc, citation, asked)?;
+            return shown(alloc, &citation, format, printing.marks);
+        }
+    }
+    shown(alloc, citation, format, printing.marks)
 }
 
 /// The bibliography of an answer. Where its style has none, standard error says so.
@@ -196,13 +215,12 @@ fn print_lines(rt: &impl Print, texts: &[String]) -> Result<(), CommandError> {
 pub(crate) fn print_json(
     rt: &(impl Print + AllocGlobal),
     printing: &Printing<'_>,
-    citations: &[Citation],
     answer: &Answer,
 ) -> Result<(), CommandError> {
     let text = print_answer(
         rt.alloc(),
         printing.style,
-        citations,
+        printing.citations,
         answer,
         printing.marks,
     )?;

@@ -4,8 +4,9 @@ use crate::files::{is_absent, text_of};
 use crate::near_styles::near_style;
 use crate::reports::{refused, show_style_warnings, style_refused};
 use cite_command::arguments::Options;
+use cite_locale::tags::usual_tag;
 use packaged_styles::styles::style_named;
-use std::alloc::AllocError;
+use std::alloc::{AllocError, Global};
 use std::fs;
 use std::rt::Files;
 use style_file::style::{CslStyle, DependentStyle, StyleFile};
@@ -25,18 +26,18 @@ pub(crate) struct FoundStyle {
 }
 
 impl FoundStyle {
-    /// The language in which its words are: that of the command, or else of the style.
-    pub fn language<'a>(&'a self, options: &'a Options) -> &'a str {
-        if let Some(language) = &options.locale {
-            return language.as_str();
-        }
-        if let Some(language) = &self.language {
-            return language.as_str();
-        }
-        match &self.style.default_locale {
-            Some(language) => language.as_str(),
-            None => LANGUAGE,
-        }
+    /// The tag of the language in which its words are: that of the command, or else of the style.
+    ///
+    /// # Errors
+    ///
+    /// Where memory is refused.
+    pub fn language(&self, alloc: Global, options: &Options) -> Result<String, AllocError> {
+        let told = options
+            .locale
+            .as_deref()
+            .or(self.language.as_deref())
+            .or(self.style.default_locale.as_deref());
+        usual_tag(alloc, told.unwrap_or(LANGUAGE))
     }
 }
 

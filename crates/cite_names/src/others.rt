@@ -1,0 +1,15 @@
+//! The name that stands for names that aren't told, as `and others` of BibTeX.
+use csl_references::name::Name;
+
+/// What converters of BibTeX write in place of names that aren't told.
+const OTHERS: &str = "others";
+
+/// The names of a list but a last one that stands for others. A name that stands alone is a name.
+pub fn told_names(names: &[Name]) -> &[Name] {
+    match names.split_last() {
+        Some((Name::Literal(last), before)) if last.as_str() == OTHERS && !before.is_empty() => {
+            before
+        }
+        _ => names,
+    }
+}
