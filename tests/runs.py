@@ -25,9 +25,10 @@ def read(path):
         return file.read()
 
 
-def sized(documents):
-    """Documents one after the other, each behind a line with its length."""
-    return b''.join(b'%d\n%b' % (len(it), it) for it in documents)
+def sized(reader, documents):
+    """Documents one after the other for a built test_readers, each behind a line with the letter of
+    its reader and its length."""
+    return b''.join(b'%b%09d\n%b' % (reader, len(it), it) for it in documents)
 
 
 def ended(command, given, seconds, **how):

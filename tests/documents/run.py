@@ -12,15 +12,16 @@ written without a driver; where there is a NAME.equality, it is told which reque
 first, and whether that for the bibliography is one for its style alone. A copy of each answer has
 to be equal to it. It tells where each document that is refused is wrong, which faults.txt has for
 most of them, and nothing of the others. Where there is a NAME.context, it prints what calls of a
-writing context give in the document's first style, and where there is a NAME.cites, what calls that
+writing context write in the document's first style, and where there is a NAME.cites, what calls that
 render its entries give. crates/test_tables, which is looked for likewise, answers each document that
 has an answer once more from a table of what its styles write; with any one thing taken out exactly
 that has to be missing, and a table that is empty at first has to be filled in at most three calls
-more than rounds mark. crates/test_rows, which has cases that no document can express, has to say of
-each that it is as it should be. It refuses each growth of memory in turn (refuse.c, for which a C
-compiler must be there), in all of these programs but the last; each such sweep is for some calls,
-and fails where one of them met no refusal. Without the library jsonschema the documents aren't held
-to the schema: a line says so, and where the environment has CI set, it fails.
+more than rounds mark, or in the mode `csl` in ten. crates/test_rows, which has cases that no
+document can express, has to say of each that it is as it should be. It refuses each growth of
+memory in turn (refuse.c, for which a C compiler must be there), in all of these programs but the
+last; each such sweep is for some calls, and fails where one of them met no refusal. Without the
+library jsonschema the documents aren't held to the schema: a line says so, and where the
+environment has CI set, it fails.
 run.py PROGRAM FOLDER..: runs it on the documents of these folders, and does nothing else.
 
 A document is NAME.json. NAME.txt is what it must print; where the status isn't 0, NAME.status has
@@ -236,7 +237,7 @@ def tests_of_tables(tables, bases):
 
 def tests_of_contexts(calls, bases):
     """What crates/test_calls is to do with the documents that tell what calls of a writing context
-    give, or calls that render."""
+    write, or calls that render."""
     asked = [(way, it) for way in ('context', 'cites') for it in bases if os.path.isfile(it + '.' + way)]
     return [('%s: %s' % (way, name_of(it)), by_calls, calls, way, it, 0, read(it + '.' + way)) for way, it in asked]
 
@@ -652,11 +653,6 @@ CALLS += [*PASSES, *RENDERING]
 # Those that print before others are called.
 PRINT = ['standalone_citation', 'context', *PASSES, *RENDERING]
 MOST_GROWTHS = 100000
-# The calls that take no memory, in the order in which crates/test_calls makes them.
-FREE = """
-BibliographyDriver::new with_citation_number_offset with_last lookup_locale ElemChildren::new collapse_items
-write_buf remove_any_meta write_year
-""".split()
 
 
 def compiled(folder):
@@ -749,28 +745,6 @@ def sweep_of_calls(shim, program, way, swept, given, status_wanted, text):
     return len(runs) - 1
 
 
-def sweep_of_free(shim, program, given):
-    """The calls of `FREE` are named before they are made, and `prepare` stands before what they
-    need: no growth is refused between a call's name and the next line."""
-
-    def judge(_n, status, out, lines):
-        if '!' not in lines:
-            made = [it for it in lines if it in FREE]
-            if status != 0 or made != FREE:
-                raise Failed('status %d, and not 0; it ended at %s behind %s' % (status, lines[-1:], made[-1:]))
-            return
-        at = lines[lines.index('!') - 1]
-        if at in FREE:
-            raise Failed('%s took memory' % at)
-        if status != 5 or out:
-            raise Failed('status %d, and not 5, refused at %s' % (status, at))
-
-    runs = refused_in_turn(shim, program, b'free\n' + given, judge)
-    if len(runs) == 1:
-        raise Failed('no growth was refused')
-    return len(runs) - 1
-
-
 def sweeps_of_contexts(shim, program):
     """Those of the calls of a writing context, and of calls that render."""
     context, cites = HERE + '/words/calls_of_a_context', HERE + '/purposes/calls_of_a_style'
@@ -805,8 +779,7 @@ def sweeps_of_calls(shim, program):
     for name in ('hidden_cites', 'cites_without_content'):
         base, way = HERE + '/alone/' + name, 'standalone_citation'
         made.append(('growths of %s: %s' % (way, name), sweep_of_calls, shim, program, way, [way], read(base + '.json'), 0, read(base + '.alone')))
-    free = read(HERE + '/words/calls_without_memory.json')
-    return [*made, ('growths of calls that take none', sweep_of_free, shim, program, free)]
+    return made
 
 
 def sweeps_of_tables(shim, program):
@@ -856,7 +829,7 @@ def tried(name, call, *given):
     """What failed, and how, or nothing."""
     try:
         count = call(*given)
-        if call in (sweep_of_program, sweep_of_calls, sweep_of_free):
+        if call in (sweep_of_program, sweep_of_calls):
             GROWTHS.append(count)
         return None
     except Failed as error:

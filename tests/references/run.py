@@ -1,5 +1,5 @@
 #!/usr/bin/env python3
-"""run.py PROGRAM [--mutate N] [--seed S] [--strict]: what PROGRAM, a built test_references, reads
+"""run.py PROGRAM [--mutate N] [--seed S] [--strict]: what PROGRAM, a built test_readers, reads
 of CSL-JSON.
 
 Each case of cases/ is read as its lines say, and where pandoc is installed, what pandoc writes for
@@ -41,7 +41,7 @@ LACKS_ID = 'no `id`'
 
 def ended(program, documents, *words, **how):
     """Status, standard output and standard error of a run with these documents."""
-    return runs.ended([program, *words], sized(documents), SECONDS, **how)
+    return runs.ended([program, *words], sized(b'r', documents), SECONDS, **how)
 
 
 def answers(program, documents):
@@ -270,7 +270,7 @@ def written(folder, shape, size):
     child = os.fork()
     if child == 0:
         with open(path, 'wb') as file:
-            file.write(sized([shape(size)]))
+            file.write(sized(b'r', [shape(size)]))
         os._exit(0)
     if os.waitpid(child, 0)[1] != 0:
         raise Failed('a document of size %d was not made' % size)

@@ -1,6 +1,6 @@
 #!/usr/bin/env python3
-"""run.py GAMHILON TEST_STYLE_FILES [--mutate N] [--seed S]: tries two built programs,
-crates/gamhilon, which checks files, and crates/test_style_files, on styles and locales.
+"""run.py GAMHILON TEST_READERS [--mutate N] [--seed S]: tries two built programs, crates/gamhilon,
+which checks files, and crates/test_readers, on styles and locales.
 
 Each file of documents/, and of Debian's packages citation-style-language-styles and
 citation-style-language-locales, is read, with no warning but those of EXPLAINED, and says what it
@@ -50,7 +50,7 @@ MEASURABLE = 0.01
 
 def ended(program, documents, *words, **how):
     """Status, standard output and standard error of a run with these documents."""
-    return runs.ended([program, *words], runs.sized(documents), SECONDS, **how)
+    return runs.ended([program, *words], runs.sized(b's', documents), SECONDS, **how)
 
 
 class Answer:
@@ -63,7 +63,7 @@ class Answer:
 
 def answers(programs, documents):
     """What the program says of each document."""
-    status, out, error = ended(programs.test_style_files, documents, preexec_fn=runs.at_most(MOST_MEMORY))
+    status, out, error = ended(programs.test_readers, documents, preexec_fn=runs.at_most(MOST_MEMORY))
     if status != 0 or error:
         raise Failed('status %d, %r' % (status, error[:200]))
     found, answer = [], Answer()
@@ -117,7 +117,7 @@ def same_values(programs, paths):
 
 def difference(programs, document):
     """The first line that a document says otherwise by the program and by xml.etree."""
-    ours = ended(programs.test_style_files, [document], 'show')[1].decode().split('\n')
+    ours = ended(programs.test_readers, [document], 'show')[1].decode().split('\n')
     ours = [it for it in ours if not it.startswith('warning ')]
     for mine, theirs in zip(ours, said_of(document).split('\n')):
         if mine != theirs:
@@ -260,7 +260,7 @@ def mutations(programs, count, seed):
 def refused_in_turn(programs, document):
     """Each run with a growth refused ends with status 5, or 1 while the input is read, and prints
     nothing; or with the answer. Reading is refused some, and at last none is refused."""
-    run = lambda environment: ended(programs.test_style_files, [document], 'calls', env=environment)
+    run = lambda environment: ended(programs.test_readers, [document], 'calls', env=environment)
     refused, in_reading = runs.refused_in_turn(run, unread=1)
     if in_reading < 20:
         raise Failed('only %d growths were refused while a file was read' % in_reading)
@@ -272,7 +272,7 @@ def refused_in_turn(programs, document):
 
 def seconds(programs, documents):
     """The processor time of reading these documents."""
-    time, (status, out, _) = processor_time(resource.RUSAGE_CHILDREN, lambda: ended(programs.test_style_files, documents, 'count'))
+    time, (status, out, _) = processor_time(resource.RUSAGE_CHILDREN, lambda: ended(programs.test_readers, documents, 'count'))
     if (status, out) != (0, b'%d\n' % len(documents)):
         raise Failed('status %d, and %r of %d files were read' % (status, out, len(documents)))
     return time
@@ -362,12 +362,12 @@ def tests_of(given):
 def main():
     parser = argparse.ArgumentParser(description=__doc__, formatter_class=argparse.RawDescriptionHelpFormatter)
     parser.add_argument('gamhilon')
-    parser.add_argument('test_style_files')
+    parser.add_argument('test_readers')
     parser.add_argument('--mutate', type=int, default=3000, metavar='N')
     parser.add_argument('--seed', type=int, default=1, metavar='S')
     given = parser.parse_args()
     programs = argparse.Namespace(
-        gamhilon=os.path.abspath(given.gamhilon), test_style_files=os.path.abspath(given.test_style_files)
+        gamhilon=os.path.abspath(given.gamhilon), test_readers=os.path.abspath(given.test_readers)
     )
     sys.setrecursionlimit(10000)
     return runs.count(tests_of(given), programs)

@@ -1,5 +1,5 @@
 """What a style file or a locale file says, by xml.etree, in the lines of
-crates/test_style_files/src/dump.rt.
+crates/test_readers/src/dump.rt.
 
 It reads what CSL 1.0.2 has, and is for files that have nothing else."""
 import xml.etree.ElementTree

@@ -2,17 +2,16 @@
 """run.py PROGRAM: holds PROGRAM, a built test_texts, to the tables of this folder (*.tsv).
 
 A line of a table is a function, its arguments and what it has to give, apart by tabs;
-crates/test_texts has the functions. What is wanted comes from outside: the comment before the lines
+crates/test_texts has the functions, and prints what each gives. What is wanted comes from outside: the comment before the lines
 tells from where. The terms of variables and types are called as these are (tests/csl_names.py).
-What is said to be pandoc's is asked of pandoc, where it is installed. A line with another answer is
-told, and so is one of a function that isn't there. Over one line of each function each growth of
+What is said to be pandoc's is asked of pandoc, where it is installed. A call of a function that
+isn't there, or of other arguments, is told. Over one line of each function each growth of
 memory is refused in turn (tests/documents/refuse.c, for which a C compiler must be there), and four
 times as long a text takes about four times as long.
 The last line is 'N passed, M failed', and the exit status is 1 where a test failed."""
 import argparse
 import glob
 import os
-import re
 import resource
 import shutil
 import sys
@@ -27,7 +26,7 @@ from runs import Failed, at_most, count, ended, grows_evenly, processor_time, re
 SECONDS = 600
 MOST_MEMORY = 1 << 30
 MEASURABLE = 0.1
-COUNTED = re.compile(r'(?:.*\n)?([0-9]+) passed, ([0-9]+) failed\n', re.DOTALL)
+NO_FUNCTION = 'no such function of so many arguments'
 
 
 def sections_of(path):
@@ -54,33 +53,43 @@ def lines_of_terms():
             for name in names]
 
 
-def run(program, lines, **how):
-    return ended([program], ''.join(it + '\n' for it in lines).encode(), SECONDS, **how)
+def run(program, call, **how):
+    return ended([program], (call + '\n').encode(), SECONDS, **how)
+
+
+def given(program, call):
+    """What a call gives."""
+    status, out, error = run(program, call, preexec_fn=at_most(MOST_MEMORY))
+    if status != 0 or error or not out.endswith(b'\n'):
+        raise Failed('status %d, %s%s' % (status, out.decode()[-300:], error.decode()[-300:]))
+    return out.decode()[:-1]
 
 
 def holds(program, line):
     """The line gives what it has to."""
-    status, out, error = run(program, [line], preexec_fn=at_most(MOST_MEMORY))
-    if (status, out, error) != (0, b'1 passed, 0 failed\n', b''):
-        raise Failed('status %d, %s%s' % (status, out.decode()[-300:], error.decode()[-300:]))
+    call, wanted = line.rsplit('\t', 1)
+    got = given(program, call)
+    if got != wanted:
+        raise Failed('it gives %s' % got[-300:])
 
 
 def notices(program, line):
-    """A line that asks for anything else is told, and so is a function that isn't there."""
-    call, wanted = line.rsplit('\t', 1)
-    for other in (call + '\t' + wanted + '?', 'no' + line, line + '\t', call):
-        status, out, error = run(program, [line, other])
-        told = COUNTED.fullmatch(out.decode())
-        if status != 1 or error or not told or told.groups() != ('1', '1'):
-            raise Failed('%s: status %d, %r, %r' % (other, status, out[-200:], error[-200:]))
+    """A call of a function that isn't there is told, and so is one with an argument more, or less:
+    `written` takes any number of steps."""
+    call, _ = line.rsplit('\t', 1)
+    others = ['no' + call, call + '\t?']
+    if not call.startswith('written'):
+        others.append(call.rsplit('\t', 1)[0])
+    for other in others:
+        if given(program, other) != NO_FUNCTION:
+            raise Failed('%s is a call' % other)
 
 
 def unknown(program, name):
     """No variable and no type has this name."""
     for kind in ('number', 'names', 'locator', 'type'):
-        status, out, error = run(program, ['term-of\t%s\t%s\t%s' % (kind, name, name)])
-        if status != 1 or error or not out.endswith(b'0 passed, 1 failed\n'):
-            raise Failed('%s: status %d, %r, %r' % (kind, status, out, error))
+        if given(program, 'term-of\t%s\t%s' % (kind, name)) != NO_FUNCTION:
+            raise Failed('%s: it has a term' % kind)
 
 
 def as_pandoc(path, command):
@@ -104,7 +113,8 @@ def one_of_each(lines):
 
 def growths(program, line):
     """Each growth of memory that is refused ends the run with status 5, or with the answer."""
-    refused, _ = refused_in_turn(lambda environment: run(program, [line], env=environment))
+    call = line.rsplit('\t', 1)[0]
+    refused, _ = refused_in_turn(lambda environment: run(program, call, env=environment))
     if not refused:
         raise Failed('no growth was refused')
 
@@ -149,9 +159,10 @@ def shapes(size):
 
 def seconds(program, line):
     """The processor time of a run over a line, which gives what it has to."""
+    call, wanted = line.rsplit('\t', 1)
     time, (status, out, error) = processor_time(resource.RUSAGE_CHILDREN,
-                                                lambda: run(program, [line]))
-    if (status, out, error) != (0, b'1 passed, 0 failed\n', b''):
+                                                lambda: run(program, call))
+    if (status, out, error) != (0, (wanted + '\n').encode(), b''):
         raise Failed('status %d, %r, %r' % (status, out[-200:], error[-200:]))
     return time
 

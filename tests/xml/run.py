@@ -1,17 +1,17 @@
 #!/usr/bin/env python3
-"""run.py PROGRAM [--mutate N] [--seed S]: compares PROGRAM, a built test_xml, with Python's
-xml.etree, which stands on expat.
+"""run.py PROGRAM [--mutate N] [--seed S]: compares PROGRAM, a built test_readers, with expat, and
+with Python's xml.etree, which stands on it.
 
 The trees of all documents of documents/, and of all files of Debian's packages
-citation-style-language-styles and citation-style-language-locales, are xml.etree's; those that
-aren't installed are named. The documents of broken.py are refused at their places and in their
-words. N documents (3000, if not said) are made by changes of others, drawn by the seed: each is
-read, with the same tree, where expat reads it, and else refused at a place of the text, but for
-what this reader refuses by a limit and for names that only the fifth edition of XML 1.0 allows.
-What a limit just allows is read. Each growth of memory is refused in turn
-(tests/documents/refuse.c, for which a C compiler must be there). Four times as much takes about
-four times as long, and the packages' files no longer than xml.etree takes for their trees. The last
-line is 'N passed, M failed', and the exit status is 1 where a test failed."""
+citation-style-language-styles and citation-style-language-locales, are expat's, name by name and
+attribute by attribute; those that aren't installed are named. The documents of broken.py are
+refused at their places and in their words. N documents (3000, if not said) are made by changes of
+others, drawn by the seed: each is read, with the same tree, where xml.etree reads it, and else
+refused at a place of the text, but for what this reader refuses by a limit and for names that only
+the fifth edition of XML 1.0 allows. What a limit just allows is read. Each growth of memory is
+refused in turn (tests/documents/refuse.c, for which a C compiler must be there). Four times as much
+takes about four times as long, and the packages' files no longer than xml.etree takes for their
+trees. The last line is 'N passed, M failed', and the exit status is 1 where a test failed."""
 import argparse
 import glob
 import hashlib
@@ -45,7 +45,7 @@ MEASURABLE = 0.1
 
 def ended(program, documents, *words, **how):
     """Status, standard output and standard error of a run with these documents."""
-    return runs.ended([program, *words], runs.sized(documents), SECONDS, **how)
+    return runs.ended([program, *words], runs.sized(b'x', documents), SECONDS, **how)
 
 
 def answers(program, documents):
@@ -62,30 +62,44 @@ def answers(program, documents):
 # Trees
 
 
-def push_element(out, element):
-    """Appends what crates/test_xml/src/dump.rt makes of an element."""
-    out.append('\1' + element.tag)
-    for name, value in element.attrib.items():
-        out.append('\2%s\3%s' % (name, value))
-    if element.text:
-        out.append('\4' + element.text)
-    for child in element:
-        push_element(out, child)
-        if child.tail:
-            out.append('\4' + child.tail)
-    out.append('\5')
+class Tree:
+    """What crates/test_readers/src/xml.rt makes of a document, as expat tells of it."""
+
+    def __init__(self):
+        self.out, self.text = [], []
+
+    def end_text(self):
+        if self.text:
+            self.out.append('\4' + ''.join(self.text))
+            self.text = []
+
+    def start(self, name, attributes):
+        self.end_text()
+        self.out.append('\1' + name)
+        for at in range(0, len(attributes), 2):
+            self.out.append('\2%s\3%s' % tuple(attributes[at : at + 2]))
+
+    def end(self, _name):
+        self.end_text()
+        self.out.append('\5')
 
 
-def digest(root):
-    out = []
-    push_element(out, root)
-    return hashlib.md5(''.join(out).encode()).hexdigest()
+def digest(document):
+    """The digest of a document's tree. What xml.etree refuses, as for its prefixes, is a
+    ParseError."""
+    xml.etree.ElementTree.fromstring(document)
+    tree, parser = Tree(), expat.ParserCreate()
+    parser.ordered_attributes = True
+    parser.StartElementHandler, parser.EndElementHandler = tree.start, tree.end
+    parser.CharacterDataHandler = lambda text: tree.text.append(text)
+    parser.Parse(document, True)
+    return hashlib.md5(''.join(tree.out).encode()).hexdigest()
 
 
 def same_trees(program, paths):
     documents = [read(it) for it in paths]
     said = answers(program, documents)
-    wrong = [path for path, document, line in zip(paths, documents, said) if line != digest(xml.etree.ElementTree.fromstring(document))]
+    wrong = [path for path, document, line in zip(paths, documents, said) if line != digest(document)]
     if wrong or not paths:
         raise Failed('of %d documents, %d have another tree: %s' % (len(paths), len(wrong), ', '.join(wrong[:5])))
 
@@ -132,7 +146,7 @@ def within_limits(program):
         b'<a %b><b1:c b2:d="e"/></a>' % b' '.join(b'xmlns:b%d="u%d"' % (n, n) for n in range(64)),
     ]
     for document, line in zip(documents, answers(program, documents)):
-        if line != digest(xml.etree.ElementTree.fromstring(document)):
+        if line != digest(document):
             raise Failed('%r..: %s' % (document[:40], line))
 
 
@@ -149,7 +163,7 @@ def judge(document, line):
     """What is wrong with what was said of a document, if anything."""
     fault = FAULT.fullmatch(line)
     try:
-        theirs = digest(xml.etree.ElementTree.fromstring(document))
+        theirs = digest(document)
     except (xml.etree.ElementTree.ParseError, LookupError):
         theirs = None
     if fault is None:

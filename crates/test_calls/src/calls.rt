@@ -1,8 +1,9 @@
 //! A document's requests, handed to the driver one by one.
 
 use crate::account::{print_account, print_csl_account, print_refusal};
+use crate::cites::print_cites;
+use crate::contexts::print_contexts;
 use crate::equality::{print_copies, print_requests, print_wanted, word};
-use crate::free::calls_without_memory;
 use crate::passes::by_passes;
 use crate::streams::{Failing, Slow};
 use cite_document::document::Document;
@@ -22,7 +23,6 @@ use csl_driver::terms::TermTables;
 use csl_round_laws::mode::RoundMode;
 use json_document::document::utf8_text;
 use json_document::finders::found_styles;
-use json_document::found::FoundStyle;
 use json_document::requests::{AskedRequest, Targets, driver_request};
 use json_document::rounds::Rounds;
 use std::alloc::{AllocError, Global};
@@ -51,8 +51,10 @@ pub enum How {
     Equality,
     /// By `finish`; what is printed is whether a copy of the answer is equal to it.
     Copies,
-    /// By none: calls that take no memory are made.
-    Free,
+    /// By none: calls of a writing context are made in the first style.
+    Context,
+    /// By none: the entries are rendered in the first style, without a driver.
+    Cites,
 }
 
 /// What was seen of the calls.
@@ -75,7 +77,7 @@ struct Asking<'d, 'f> {
 
 type Driver<'e> = BibliographyDriver<'e, PlainEntry, Infallible>;
 
-pub(crate) type Request<'e> = CitationRequest<'e, PlainEntry, Infallible>;
+type Request<'e> = CitationRequest<'e, PlainEntry, Infallible>;
 
 /// Hands in a request, and once more where it comes back; tells whether it did.
 fn take<'e>(driver: &mut Driver<'e>, request: Request<'e>) -> Result<bool, RunError> {
@@ -349,39 +351,6 @@ fn requests_of<'e, 'f: 'e>(
     Ok(requests)
 }
 
-/// The entry of the first cite of the first request.
-fn first_entry(document: &Document) -> Option<&PlainEntry> {
-    match document.job.requests.as_slice().first() {
-        Some(request) => match request.items.as_slice().first() {
-            Some(cite) => document.entries.get(cite.entry),
-            None => None,
-        },
-        None => None,
-    }
-}
-
-/// The style of the bibliography.
-fn wanted_style<'d, 'f>(asking: Asking<'d, 'f>) -> Option<&'d FoundStyle<'f>> {
-    asking.targets.styles.get(asking.document.job.wanted.style)
-}
-
-/// Makes calls that take no memory.
-fn call_free(
-    rt: &(impl Print + Eprint + AllocGlobal),
-    asking: Asking<'_, '_>,
-    requests: &[Request<'_>],
-) -> Result<Seen, RunError> {
-    let document = asking.document;
-    let (Some(entry), Some(found)) = (first_entry(document), wanted_style(asking)) else {
-        return Err(RunError::Document);
-    };
-    if calls_without_memory(rt, requests, found.style, entry, &document.locales)? {
-        Ok(Seen::Answer)
-    } else {
-        Ok(Seen::Amiss("a call that takes no memory gave what it may not"))
-    }
-}
-
 /// Compares cites with their copies, the requests with the first one, and that for the bibliography
 /// with one for its style alone.
 fn compare<'e, 'f: 'e>(
@@ -408,8 +377,7 @@ fn call_with_requests<'e, 'f: 'e>(
     let requests = requests_of(rt.alloc(), asking)?;
     match how {
         How::Passes => by_passes(rt, &requests),
-        How::Equality => compare(rt, asking, &requests),
-        _ => call_free(rt, asking, &requests),
+        _ => compare(rt, asking, &requests),
     }
 }
 
@@ -421,7 +389,7 @@ fn answered_over<'e, 'f: 'e>(
 ) -> Result<Seen, RunError> {
     match how {
         How::Alone => answer_alone(rt, asking),
-        How::Passes | How::Equality | How::Free => call_with_requests(rt, asking, how),
+        How::Passes | How::Equality => call_with_requests(rt, asking, how),
         _ => answer_all(rt, asking, how),
     }
 }
@@ -442,6 +410,22 @@ fn answered_document(
     answered_over(rt, Asking { document, targets }, how)
 }
 
+/// Makes calls in the first style of a document, and answers none of its requests.
+fn in_first_style(
+    rt: &(impl Print + Eprint + AllocGlobal),
+    document: &Document,
+    how: How,
+) -> Result<Seen, RunError> {
+    let Some(named) = document.styles.as_slice().first() else {
+        return Err(RunError::Document);
+    };
+    match how {
+        How::Context => print_contexts(rt, &named.style)?,
+        _ => print_cites(rt, &named.style, &document.locales, &document.entries)?,
+    }
+    Ok(Seen::Answer)
+}
+
 /// Does what is asked with the document.
 pub fn answered(
     rt: &(impl Print + Eprint + AllocGlobal),
@@ -450,7 +434,10 @@ pub fn answered(
 ) -> Result<Seen, RunError> {
     let _ = eprintln!(rt; "prepare");
     let document = Document::parse(rt.alloc(), document.as_bytes())?;
-    let seen = answered_document(rt, &document, how);
+    let seen = match how {
+        How::Context | How::Cites => in_first_style(rt, &document, how),
+        _ => answered_document(rt, &document, how),
+    };
     drop(document);
     seen
 }

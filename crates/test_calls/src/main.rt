@@ -1,7 +1,7 @@
 //! Answers a document call by call, for what no document shows: what an answer cost and by what its
 //! entries are disambiguated, where a ring stands, citations and passes by themselves, writers and
-//! readers that fail, and runs in which one growth of memory is refused; and the calls of a writing
-//! context (`test_contexts`).
+//! readers that fail, and runs in which one growth of memory is refused; and in its first style
+//! calls of a writing context, and calls that render without a driver.
 //!
 //! The first line of standard input says what is done (a number: `run`, over a writer that fails
 //! behind so many bytes), and the document follows. Before each call its name is written to
@@ -11,9 +11,11 @@
 
 mod account;
 mod calls;
+mod cites;
+mod contexts;
 mod equality;
-mod free;
 mod passes;
+mod rings;
 mod streams;
 
 use calls::{How, Seen, answered, fault_told, read_slowly, written_out, written_until};
@@ -21,8 +23,6 @@ use cite_document::error::RunError;
 use cite_document::input::read_input;
 use json_document::document::utf8_text;
 use std::process::ExitCode;
-use test_contexts::ended::Ended;
-use test_contexts::{context_way, in_context};
 
 /// By which calls the first line says that the document is answered.
 fn how_of(asked: &str) -> Option<How> {
@@ -37,7 +37,8 @@ fn how_of(asked: &str) -> Option<How> {
         "passes" => Some(How::Passes),
         "equality" => Some(How::Equality),
         "copies" => Some(How::Copies),
-        "free" => Some(How::Free),
+        "context" => Some(How::Context),
+        "cites" => Some(How::Cites),
         _ => None,
     }
 }
@@ -50,9 +51,6 @@ fn answer_to(rt: &(impl Print + Eprint + AllocGlobal), text: &str) -> Result<See
     if let Some(how) = how_of(asked) {
         return answered(rt, document, how);
     }
-    if let Some(way) = context_way(asked) {
-        return seen_in_context(in_context(rt, document, way));
-    }
     match asked {
         "run" => written_out(rt, document),
         "slow" => read_slowly(rt, document, false),
@@ -61,15 +59,6 @@ fn answer_to(rt: &(impl Print + Eprint + AllocGlobal), text: &str) -> Result<See
             Ok(left) => written_until(rt, document, left),
             Err(_) => Err(RunError::Document),
         },
-    }
-}
-
-/// What was seen of the calls of a writing context.
-fn seen_in_context(ended: Result<(), Ended>) -> Result<Seen, RunError> {
-    match ended {
-        Ok(()) => Ok(Seen::Answer),
-        Err(Ended::Document) => Err(RunError::Document),
-        Err(Ended::Refused) => Err(RunError::OutOfMemory),
     }
 }
 

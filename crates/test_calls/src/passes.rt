@@ -1,5 +1,5 @@
 //! The passes by themselves, on the cites of a document as they are written without a driver.
-ghost use Rattle.std.specs.Prelude.{All, IfOk};
+ghost use Rattle.std.specs.Prelude.{All};
 ghost use Rattle.csl_style_values.specs.Ring.{HasNoRing};
 ghost use Rattle.csl_passes.specs.Places.{AreDistinct, IsPlace};
 ghost use Rattle.csl_passes.specs.RendersView.{renders_view};
@@ -7,6 +7,7 @@ ghost use Rattle.csl_writing.specs.ContextSource.{context_source};
 
 use crate::account::print_state;
 use crate::calls::Seen;
+use crate::rings::ringless;
 use cite_document::error::RunError;
 use csl_base::elem::ElemChildren;
 use csl_base::entry::{EntryLike, PlainEntry};
@@ -25,23 +26,13 @@ use csl_driver::request::CitationRequest;
 use std::alloc::{AllocError, Global};
 use std::convert::Infallible;
 
-pub(crate) type Item<'e> = CitationItem<'e, PlainEntry, Infallible>;
+type Item<'e> = CitationItem<'e, PlainEntry, Infallible>;
 
 type Request<'e> = CitationRequest<'e, PlainEntry, Infallible>;
 
-pub(crate) type Cite<'e> = SpeculativeItemRender<'e, PlainEntry, Infallible>;
+type Cite<'e> = SpeculativeItemRender<'e, PlainEntry, Infallible>;
 
-pub(crate) type Cites<'r, 'e> = SpeculativeCiteRender<'r, 'e, PlainEntry, Infallible>;
-
-/// The style without locales.
-fn ringless<'a>(alloc: Global, style: &'a IndependentStyle) -> Result<StyleContext<'a>, RunError>
-    ensures { IfOk result (λ context. HasNoRing (context_source context).style.macros) }
-{
-    match style.ring(alloc)? {
-        Some(_) => Err(RunError::Document),
-        None => Ok(StyleContext::new(style, None, &[])),
-    }
-}
+type Cites<'r, 'e> = SpeculativeCiteRender<'r, 'e, PlainEntry, Infallible>;
 
 /// What is written of a cite of the entry.
 fn written_alone(
@@ -72,7 +63,7 @@ fn written<'e>(
     style: &IndependentStyle,
     item: &Item<'e>,
 ) -> Result<Cite<'e>, RunError> {
-    let context = ringless(alloc, style)?;
+    let context = ringless(alloc, style, &[])?;
     let cite = written_alone(alloc, &context, item.entry)?;
     Ok(SpeculativeItemRender {
         rendered: cite.children,
@@ -101,7 +92,7 @@ fn written_of<'r, 'e>(alloc: Global, request: &'r Request<'e>) -> Result<Cites<'
 }
 
 /// The cites of all requests.
-pub(crate) fn all_written<'r, 'e>(
+fn all_written<'r, 'e>(
     alloc: Global,
     requests: &'r [Request<'e>],
 ) -> Result<Vec<Cites<'r, 'e>>, RunError> {
@@ -203,7 +194,7 @@ fn item_of(
     item: &Item<'_>,
     counter: &mut Renders,
 ) -> Result<Option<(ElemChildren, String)>, RunError> {
-    let context = ringless(alloc, style)?;
+    let context = ringless(alloc, style, &[])?;
     let properties: CiteProperties<'_, Infallible> = CiteProperties::for_sorting(None, 0);
     let tree = context.bibliography(alloc, item.entry, &properties, None, None, counter);
     drop(properties);

@@ -1,6 +1,7 @@
 //! A document answered by the layouts of its styles, and again from a table of what these wrote, in
 //! styles that have a name in place of their layouts: answer and account have to be the same. Then
-//! each thing is taken out of the table, one at a time, and exactly that has to be missing; it is
+//! each thing is taken out of the table, one at a time, and that has to be missing, with nothing
+//! beside it in the mode `full` (in the mode `csl`, cites that repeat may be missing too); it is
 //! answered by a source that has what is in the table, which may be asked once for each thing; and
 //! a table that is empty at first gets what is missing until nothing is.
 

@@ -13,7 +13,7 @@ use json_document::rounds::Rounds;
 use std::convert::Infallible;
 
 /// How often a driver is called at most where works are told apart as CSL 1.0.2 has it.
-const CSL_CALLS: usize = 5;
+const CSL_CALLS: usize = 10;
 
 /// What an answer cost.
 #[derive(Drop)]

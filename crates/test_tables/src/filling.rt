@@ -135,7 +135,7 @@ fn compared(
 }
 
 /// Drives it with an empty table, and puts in what is missing, until nothing is. After three calls
-/// more than rounds mark, or five where works are disambiguated as CSL 1.0.2 has it, the answer has
+/// more than rounds mark, or ten where works are disambiguated as CSL 1.0.2 has it, the answer has
 /// to be that of the layouts.
 pub fn drive_to_the_end(
     asking: &Asking<'_, '_>,

@@ -4,16 +4,41 @@ use crate::by_table::{Asking, driven};
 use crate::recording::put_in;
 use crate::seen::Seen;
 use cite_document::error::RunError;
+use csl_lookup::state::IbidState;
 use host_driver::drive::Driven;
-use host_memo::key::TaskKey;
+use host_memo::key::{TaskKey, TaskPart};
 use host_memo::table::Table;
+use indexmap::IndexSet;
+use json_document::rounds::Rounds;
+
+/// Whether a cite that repeats another is asked for.
+fn repeats(key: &TaskKey) -> bool {
+    match &key.part {
+        TaskPart::Cite(standing, _, _) => standing.ibid != IbidState::Different,
+        _ => false,
+    }
+}
+
+/// Whether nothing else than this is missing, but for cites that repeat: what is written of a
+/// mention decides as what it is repeated.
+fn lack_nothing_else(missing: &IndexSet<TaskKey>, key: &TaskKey) -> bool {
+    for other in missing {
+        if *other != *key && !repeats(other) {
+            return false;
+        }
+    }
+    missing.contains(key)
+}
 
 /// Whether the table lacks this and nothing else.
 fn lacks_alone(asking: &Asking<'_, '_>, table: &Table, key: &TaskKey) -> Result<bool, RunError> {
     let driven = driven(asking, table)?;
     let lacks = match &driven {
         Driven::Answer(_, _) => false,
-        Driven::Missing(missing) => missing.len() == 1 && missing.contains(key),
+        Driven::Missing(missing) => match asking.job.rounds {
+            Rounds::Mode(_) => missing.len() == 1 && missing.contains(key),
+            Rounds::Csl => lack_nothing_else(missing, key),
+        },
     };
     drop(driven);
     Ok(lacks)
@@ -30,7 +55,8 @@ fn misses_first(asking: &Asking<'_, '_>, table: &mut Table) -> Result<bool, RunE
     is_missing
 }
 
-/// Takes each thing out of the table in turn: exactly that has to be missing.
+/// Takes each thing out of the table in turn: exactly that has to be missing, and in the mode `csl`
+/// perhaps cites that repeat others.
 pub fn take_each_out(asking: &Asking<'_, '_>, table: &mut Table) -> Result<Seen, RunError> {
     for _ in 0..table.len() {
         if !misses_first(asking, table)? {

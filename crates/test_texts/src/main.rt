@@ -1,90 +1,83 @@
-//! Holds the functions over texts and streams to tables of what they give.
+//! Calls the functions over texts, streams, locales, numbers and dates, and prints what each gives:
+//! tests/texts/run.py runs it and compares.
 //!
-//! The table is the file that the argument names, or standard input. Each line of it is
-//! `FUNCTION<TAB>ARGUMENT..<TAB>EXPECTED`; empty lines and lines that begin with `#` say nothing. A
-//! line is printed for each that differs, and last how many lines held and how many did not.
+//! Each line of standard input is a call, `FUNCTION<TAB>ARGUMENT..`, for which a line is printed,
+//! at once with all others. The exit status is 5 where memory is refused, and nothing is printed
+//! then.
 #![tactic(auto)]
 
-mod ended;
 mod locales;
+mod said;
 mod streams;
 mod texts;
 mod worded;
 
 use cite_locale::chain::LocaleChain;
-use ended::Ended;
 use locales::files;
+use said::Said;
 use std::alloc::{AllocError, Global};
+use std::io;
+use std::io::ErrorKind;
 use std::process::ExitCode;
-use std::rt::{Env, Files};
-use std::{env, fs, io};
 use style_file::locale::LocaleFile;
 
-/// The table as text.
-fn table(rt: &(impl Files + Env + Input + AllocGlobal)) -> Result<String, Ended> {
-    match env::args(rt)?.nth(1) {
-        Some(path) => Ok(fs::read_to_string(rt, path.as_str())?),
-        None => Ok(io::read_to_string(rt.alloc(), rt.reader())?),
-    }
-}
-
-/// What a function gives; `None` where there is no such function of so many arguments.
-fn given(
-    alloc: Global,
-    files: &[LocaleFile],
-    function: &str,
-    args: &[&str],
-) -> Result<Option<String>, AllocError> {
+/// Has a function say what it gives, if it is one of so many arguments.
+fn give(alloc: Global, files: &[LocaleFile], function: &str, args: &[&str], said: &mut Said) {
     match function {
-        "pages" => texts::pages(alloc, args),
-        "numeric" => texts::numeric(alloc, args),
-        "numbers" => texts::numbers(alloc, args),
-        "roman" => texts::roman_numeral(alloc, args),
-        "initials" => texts::initials(alloc, args),
-        "case" => texts::case(alloc, args),
-        "language" => texts::language(alloc, args),
-        "address" => texts::address(alloc, args),
-        "begun" => texts::begun(alloc, args),
-        "term-of" => worded::term_of(alloc, args),
-        "plural" => worded::plural(alloc, args),
-        "sorted" => worded::sorted(alloc, args),
-        "date" => worded::date(alloc, files, args),
-        _ => in_locale(alloc, files, function, args),
+        "pages" => texts::pages(alloc, args, said),
+        "numeric" => texts::numeric(args, said),
+        "numbers" => texts::numbers(alloc, args, said),
+        "roman" => texts::roman_numeral(alloc, args, said),
+        "initials" => texts::initials(alloc, args, said),
+        "case" => texts::case(alloc, args, said),
+        "language" => texts::language(args, said),
+        "address" => texts::address(alloc, args, said),
+        "begun" => texts::begun(args, said),
+        "term-of" => worded::term_of(args, said),
+        "plural" => worded::plural(args, said),
+        "sorted" => worded::sorted(alloc, args, said),
+        "date" => worded::date(alloc, files, args, said),
+        _ => give_in_locale(alloc, files, function, args, said),
     }
 }
 
-/// What a function in the words of a locale gives, which its first argument names.
-fn in_locale(
+/// The same of a function in the words of a locale, which its first argument names.
+fn give_in_locale(
     alloc: Global,
     files: &[LocaleFile],
     function: &str,
     args: &[&str],
-) -> Result<Option<String>, AllocError> {
+    said: &mut Said,
+) {
     let [tag, args @ ..] = args else {
-        return Ok(None);
+        return;
     };
-    let locales = LocaleChain::new(alloc, *tag, &[], files)?;
-    let made = in_words(alloc, &locales, function, args);
-    drop(locales);
-    made
+    match LocaleChain::new(alloc, *tag, &[], files) {
+        Ok(locales) => {
+            give_in_words(alloc, &locales, function, args, said);
+            drop(locales);
+        }
+        Err(_) => said.cut(),
+    }
 }
 
-/// What a function in the words of these locales gives.
-fn in_words(
+/// The same of a function in the words of these locales.
+fn give_in_words(
     alloc: Global,
     locales: &LocaleChain<'_>,
     function: &str,
     args: &[&str],
-) -> Result<Option<String>, AllocError> {
+    said: &mut Said,
+) {
     match function {
-        "rich" => streams::rich(alloc, locales, args),
-        "plain" => streams::plain(alloc, locales, args),
-        "written" => streams::written(alloc, locales, args),
-        "term" => worded::term(alloc, locales, args),
-        "number" => worded::number(alloc, locales, args),
-        "page" => worded::page(alloc, locales, args),
-        "locator" => worded::locator(alloc, locales, args),
-        _ => Ok(None),
+        "rich" => streams::rich(alloc, locales, args, said),
+        "plain" => streams::plain(alloc, locales, args, said),
+        "written" => streams::written(alloc, locales, args, said),
+        "term" => worded::term(locales, args, said),
+        "number" => worded::number(alloc, locales, args, said),
+        "page" => worded::page(alloc, locales, args, said),
+        "locator" => worded::locator(alloc, locales, args, said),
+        _ => {}
     }
 }
 
@@ -97,91 +90,47 @@ fn words(alloc: Global, call: &str) -> Result<Vec<&str>, AllocError> {
     Ok(words)
 }
 
-/// What a call gives; `None` where there is no such function of so many arguments.
-fn called(alloc: Global, files: &[LocaleFile], call: &str) -> Result<Option<String>, AllocError> {
-    let words = words(alloc, call)?;
-    match words.as_slice() {
-        [function, args @ ..] => given(alloc, files, *function, args),
-        [] => Ok(None),
-    }
-}
-
-/// Whether a call gave what is expected.
-fn is_given(made: &Option<String>, expected: &str) -> bool {
-    match made {
-        Some(made) => made.as_str() == expected,
-        None => false,
-    }
-}
-
-/// Prints what a line that doesn't hold gives.
-fn print_other(
-    rt: &impl Print,
-    number: usize,
-    line: &str,
-    made: &Option<String>,
-) -> io::Result<()> {
-    let made = match made {
-        Some(made) => made.as_str(),
-        None => "no such function of so many arguments",
-    };
-    println!(rt; "{number}: {line}: {made}")
-}
-
-/// Whether a line holds; if not, it is printed with what the function gives.
-fn holds(
-    rt: &(impl Print + AllocGlobal),
-    files: &[LocaleFile],
-    number: usize,
-    line: &str,
-) -> Result<bool, Ended> {
-    let (call, expected) = line.rsplit_once('\t').unwrap_or((line, ""));
-    let made = called(rt.alloc(), files, call)?;
-    let holds = is_given(&made, expected);
-    if !holds {
-        print_other(rt, number, line, &made)?;
-    }
-    Ok(holds)
-}
-
-/// Whether all these lines hold; prints how many did and how many did not.
-fn all_hold(
-    rt: &(impl Print + AllocGlobal),
-    files: &[LocaleFile],
-    lines: &str,
-) -> Result<bool, Ended> {
-    let mut passed = 0usize;
-    let mut failed = 0usize;
-    for (place, line) in lines.lines().enumerate() {
-        if line.is_empty() || line.starts_with('#') {
-            continue;
+/// Appends the line of a call.
+fn call(alloc: Global, files: &[LocaleFile], line: &str, said: &mut Said) {
+    match words(alloc, line) {
+        Ok(words) => {
+            if let [function, args @ ..] = words.as_slice() {
+                give(alloc, files, *function, args, said);
+            }
         }
-        if holds(rt, files, place.saturating_add(1), line)? {
-            passed = passed.saturating_add(1);
-        } else {
-            failed = failed.saturating_add(1);
-        }
+        Err(_) => said.cut(),
     }
-    println!(rt; "{passed} passed, {failed} failed")?;
-    Ok(failed == 0)
+    said.close();
 }
 
-/// Whether all lines of the table hold.
-fn hold(rt: &(impl Files + Env + Input + Print + AllocGlobal)) -> Result<bool, Ended> {
-    let table = table(rt)?;
-    let files = files(rt.alloc())?;
-    let hold = all_hold(rt, &files, table.as_str());
+/// The lines of these calls.
+fn answer(alloc: Global, files: &[LocaleFile], calls: &str) -> Said {
+    let mut said = Said::new(alloc);
+    for line in calls.lines() {
+        call(alloc, files, line, &mut said);
+    }
+    said
+}
+
+/// What is printed of these calls.
+fn answer_all(alloc: Global, calls: &str) -> Result<String, AllocError> {
+    let files = files(alloc)?;
+    let said = answer(alloc, &files, calls);
     drop(files);
-    hold
+    said.into_text()
+}
+
+/// Reads the calls, and answers them.
+fn run(rt: &(impl Input + Print + AllocGlobal)) -> io::Result<()> {
+    let calls = io::read_to_string(rt.alloc(), rt.reader())?;
+    let text = answer_all(rt.alloc(), calls.as_str())?;
+    print!(rt; "{text}")
 }
 
 fn main(rt: HostRuntime) -> ExitCode {
-    match hold(&rt) {
-        Ok(true) => ExitCode::SUCCESS,
-        Ok(false) => ExitCode::FAILURE,
-        Err(ended) => {
-            let _ = eprintln!(rt; "test_texts: {}", ended.line());
-            ExitCode::from(ended.status())
-        }
+    match run(&rt) {
+        Ok(()) => ExitCode::SUCCESS,
+        Err(error) if error.kind() == ErrorKind::OutOfMemory => ExitCode::from(5),
+        Err(_) => ExitCode::from(2),
     }
 }

@@ -1,4 +1,5 @@
 //! Functions over streams.
+use crate::said::Said;
 use crate::texts::case_of;
 use cite_locale::chain::LocaleChain;
 use cite_pieces::html::html;
@@ -24,44 +25,42 @@ fn pieces_of_rich(
 }
 
 /// TEXT: a text with markup, as HTML.
-pub fn rich(
-    alloc: Global,
-    locales: &LocaleChain<'_>,
-    args: &[&str],
-) -> Result<Option<String>, AllocError> {
-    let [text] = args else {
-        return Ok(None);
-    };
-    let pieces = pieces_of_rich(alloc, locales, *text)?;
-    Ok(Some(html(alloc, &pieces, locales.quote_marks())?))
+pub fn rich(alloc: Global, locales: &LocaleChain<'_>, args: &[&str], said: &mut Said) {
+    if let [text] = args {
+        said.give_made(rich_html(alloc, locales, *text));
+    }
+}
+
+fn rich_html(alloc: Global, locales: &LocaleChain<'_>, text: &str) -> Result<String, AllocError> {
+    let pieces = pieces_of_rich(alloc, locales, text)?;
+    html(alloc, &pieces, locales.quote_marks())
 }
 
 /// TEXT: a text with markup, as plain text.
-pub fn plain(
-    alloc: Global,
-    locales: &LocaleChain<'_>,
-    args: &[&str],
-) -> Result<Option<String>, AllocError> {
-    let [text] = args else {
-        return Ok(None);
-    };
-    let pieces = pieces_of_rich(alloc, locales, *text)?;
-    Ok(Some(plain_text(alloc, &pieces, locales.quote_marks())?))
+pub fn plain(alloc: Global, locales: &LocaleChain<'_>, args: &[&str], said: &mut Said) {
+    if let [text] = args {
+        said.give_made(rich_plain(alloc, locales, *text));
+    }
+}
+
+fn rich_plain(alloc: Global, locales: &LocaleChain<'_>, text: &str) -> Result<String, AllocError> {
+    let pieces = pieces_of_rich(alloc, locales, text)?;
+    plain_text(alloc, &pieces, locales.quote_marks())
 }
 
 /// STEP..: what is written step by step, with its punctuation in order, as HTML. A step opens an
 /// element (`{` with its attributes, apart by `|`), closes it (`}`), discards it (`!`), or adds a
 /// text (behind `=`) or a text with markup (behind `~`).
-pub fn written(
-    alloc: Global,
-    locales: &LocaleChain<'_>,
-    steps: &[&str],
-) -> Result<Option<String>, AllocError> {
+pub fn written(alloc: Global, locales: &LocaleChain<'_>, steps: &[&str], said: &mut Said) {
     let mut output = Output::new(alloc, locales.language());
-    if !push_steps(&mut output, steps)? {
-        return Ok(None);
+    match push_steps(&mut output, steps) {
+        Ok(true) => said.give_made(punctuated_html(alloc, locales, output)),
+        Ok(false) => drop(output),
+        Err(_) => {
+            drop(output);
+            said.cut();
+        }
     }
-    Ok(Some(punctuated_html(alloc, locales, output)?))
 }
 
 /// What is written, with its punctuation in order, as HTML.

@@ -1,5 +1,6 @@
 //! Functions over the words of locales: terms, ordinals, numbers, locators and dates.
 use crate::locales::{PLAIN, affixes, part};
+use crate::said::Said;
 use cite_dates::sorting::sorted_date;
 use cite_dates::write::{DateOptions, push_date};
 use cite_locale::chain::LocaleChain;
@@ -24,29 +25,21 @@ use style_file::locale::LocaleFile;
 use style_file::names::LabelPlural;
 
 /// TERM FORM one|many
-pub fn term(
-    alloc: Global,
-    locales: &LocaleChain<'_>,
-    args: &[&str],
-) -> Result<Option<String>, AllocError> {
-    let [name, form, count] = args else {
-        return Ok(None);
-    };
-    let (Some(name), Some(form)) = (TermName::of_name(*name), TermForm::of_name(*form)) else {
-        return Ok(None);
-    };
-    let words = locales.term(name, form, *count == "many");
-    Ok(Some(String::from_str(alloc, words.unwrap_or("none"))?))
+pub fn term(locales: &LocaleChain<'_>, args: &[&str], said: &mut Said) {
+    if let [name, form, count] = args {
+        if let (Some(name), Some(form)) = (TermName::of_name(*name), TermForm::of_name(*form)) {
+            let words = locales.term(name, form, *count == "many");
+            said.give(words.unwrap_or("none"));
+        }
+    }
 }
 
 /// KIND NAME: the term of a variable or a type.
-pub fn term_of(alloc: Global, args: &[&str]) -> Result<Option<String>, AllocError> {
-    let [kind, name] = args else {
-        return Ok(None);
-    };
-    match plain_term_of(*kind, *name) {
-        Some(term) => Ok(Some(String::from_str(alloc, term.name())?)),
-        None => Ok(None),
+pub fn term_of(args: &[&str], said: &mut Said) {
+    if let [kind, name] = args {
+        if let Some(term) = plain_term_of(*kind, *name) {
+            said.give(term.name());
+        }
     }
 }
 
@@ -60,89 +53,96 @@ fn plain_term_of(kind: &str, name: &str) -> Option<PlainTerm> {
     }
 }
 
-/// FORM GENDER TEXT
-pub fn number(
-    alloc: Global,
-    locales: &LocaleChain<'_>,
-    args: &[&str],
-) -> Result<Option<String>, AllocError> {
-    let [form, gender, text] = args else {
-        return Ok(None);
-    };
-    let form = match *form {
+fn number_form(name: &str) -> NumberForm {
+    match name {
         "ordinal" => NumberForm::Ordinal,
         "long-ordinal" => NumberForm::LongOrdinal,
         "roman" => NumberForm::Roman,
         _ => NumberForm::Numeric,
-    };
-    let gender = Gender::of_name(*gender);
-    Ok(Some(number_text(alloc, locales, *text, form, gender)?))
+    }
+}
+
+/// FORM GENDER TEXT
+pub fn number(alloc: Global, locales: &LocaleChain<'_>, args: &[&str], said: &mut Said) {
+    if let [form, gender, text] = args {
+        let gender = Gender::of_name(*gender);
+        said.give_made(number_text(alloc, locales, *text, number_form(*form), gender));
+    }
 }
 
 /// TEXT: pages without a format.
-pub fn page(
-    alloc: Global,
-    locales: &LocaleChain<'_>,
-    args: &[&str],
-) -> Result<Option<String>, AllocError> {
-    let [text] = args else {
-        return Ok(None);
-    };
-    Ok(Some(pages(alloc, locales, *text, None)?))
+pub fn page(alloc: Global, locales: &LocaleChain<'_>, args: &[&str], said: &mut Said) {
+    if let [text] = args {
+        said.give_made(pages(alloc, locales, *text, None));
+    }
 }
 
 /// VARIABLE TEXT
-pub fn plural(alloc: Global, args: &[&str]) -> Result<Option<String>, AllocError> {
-    let [variable, text] = args else {
-        return Ok(None);
-    };
-    let Some(variable) = NumberVariable::of_name(*variable) else {
-        return Ok(None);
-    };
-    let word = if is_plural(LabelPlural::Contextual, variable, *text) {
-        "plural"
-    } else {
-        "singular"
-    };
-    Ok(Some(String::from_str(alloc, word)?))
+pub fn plural(args: &[&str], said: &mut Said) {
+    if let [variable, text] = args {
+        if let Some(variable) = NumberVariable::of_name(*variable) {
+            let is_plural = is_plural(LabelPlural::Contextual, variable, *text);
+            said.give(if is_plural { "plural" } else { "singular" });
+        }
+    }
 }
 
 /// LABEL TEXT: the parts, each with its label before it.
-pub fn locator(
+pub fn locator(alloc: Global, locales: &LocaleChain<'_>, args: &[&str], said: &mut Said) {
+    if let [label, text] = args {
+        if let Some(label) = LocatorType::of_name(*label) {
+            give_locator(alloc, locales, label, *text, said);
+        }
+    }
+}
+
+fn give_locator(
     alloc: Global,
     locales: &LocaleChain<'_>,
-    args: &[&str],
-) -> Result<Option<String>, AllocError> {
-    let [label, text] = args else {
-        return Ok(None);
-    };
-    let Some(label) = LocatorType::of_name(*label) else {
-        return Ok(None);
-    };
-    let mut out = String::new(alloc);
-    for part in locator_parts(alloc, locales, *text, label)? {
-        write!(out, "{}{}:{}", part.before, part.label.name(), part.text)?;
+    label: LocatorType,
+    text: &str,
+    said: &mut Said,
+) {
+    match locator_parts(alloc, locales, text, label) {
+        Ok(parts) => {
+            for part in &parts {
+                said.give(part.before);
+                said.give(part.label.name());
+                said.give(":");
+                said.give(part.text);
+            }
+        }
+        Err(_) => said.cut(),
     }
-    Ok(Some(out))
 }
 
 /// LOCALE ELEMENT SUFFIX DATE; the suffix stands behind the year.
-pub fn date(
-    alloc: Global,
-    files: &[LocaleFile],
-    args: &[&str],
-) -> Result<Option<String>, AllocError> {
+pub fn date(alloc: Global, files: &[LocaleFile], args: &[&str], said: &mut Said) {
     let [tag, element, suffix, text] = args else {
-        return Ok(None);
+        return;
     };
-    let Some(element) = date_element(alloc, *element)? else {
-        return Ok(None);
-    };
-    let reading = Date::of_text(alloc, *text)?;
-    let written = written_date(alloc, *tag, files, &element, &reading.date, *suffix);
+    match date_element(alloc, *element) {
+        Ok(Some(element)) => {
+            said.give_made(read_and_written(alloc, *tag, files, &element, *suffix, *text));
+            drop(element);
+        }
+        Ok(None) => {}
+        Err(_) => said.cut(),
+    }
+}
+
+fn read_and_written(
+    alloc: Global,
+    tag: &str,
+    files: &[LocaleFile],
+    element: &date::Date,
+    suffix: &str,
+    text: &str,
+) -> Result<String, AllocError> {
+    let reading = Date::of_text(alloc, text)?;
+    let written = written_date(alloc, tag, files, element, &reading.date, suffix);
     drop(reading);
-    drop(element);
-    Ok(Some(written?))
+    written
 }
 
 /// A date as its element has it, in plain text.
@@ -182,12 +182,17 @@ fn pieces_of_date<'s>(
 }
 
 /// DATE: the text by which it is sorted.
-pub fn sorted(alloc: Global, args: &[&str]) -> Result<Option<String>, AllocError> {
+pub fn sorted(alloc: Global, args: &[&str], said: &mut Said) {
     let [text] = args else {
-        return Ok(None);
+        return;
     };
-    let reading = Date::of_text(alloc, *text)?;
-    Ok(Some(sorted_date(alloc, &reading.date, 3)?))
+    match Date::of_text(alloc, *text) {
+        Ok(reading) => {
+            said.give_made(sorted_date(alloc, &reading.date, 3));
+            drop(reading);
+        }
+        Err(_) => said.cut(),
+    }
 }
 
 /// A date: `text` or `numeric` and its parts, as `text:year-month`; or parts apart by `|`, each a

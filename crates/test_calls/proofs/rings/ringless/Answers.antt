@@ -1,6 +1,6 @@
 use Rattle.std.proofs.Common.{subst, sym}
 use Rattle.csl_style_values.specs.Ring.{HasNoRing}
-use Rattle.test_contexts.proofs.cites.ringless.Goals as goal
+use Rattle.test_calls.proofs.rings.ringless.Goals as goal
 
 pub returns-in-None : goal.returns-in-None
 returns-in-None c =

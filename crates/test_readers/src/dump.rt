@@ -1,5 +1,6 @@
-//! Lines for what a file says: one for each element, indented by its depth, with its kind and its
-//! values.
+//! Lines for what a document says; of a style file one for each element, indented by its depth, with
+//! its kind and its values.
+use md5::{Digest, Md5};
 use std::alloc::{AllocError, Global};
 use std::fmt;
 use style_elements::tables::{
@@ -8,7 +9,7 @@ use style_elements::tables::{
 };
 use style_file::formatting::{Affixes, Display, Formatting, TextCase};
 
-/// Lines for what a file says.
+/// Lines for what a document says.
 #[derive(Drop)]
 pub struct Dump {
     text: String,
@@ -34,14 +35,78 @@ impl Dump {
         if is_cut { Err(AllocError) } else { Ok(text) }
     }
 
-    fn push_str(&mut self, text: &str) {
-        let is_pushed = self.text.push_str(text).is_ok();
+    /// Notes that memory was refused.
+    pub fn cut(&mut self) {
+        self.is_cut = true;
+    }
+
+    fn note(&mut self, is_pushed: bool) {
         self.is_cut = self.is_cut || !is_pushed;
     }
 
-    fn push(&mut self, c: char) {
+    pub fn push_str(&mut self, text: &str) {
+        let is_pushed = self.text.push_str(text).is_ok();
+        self.note(is_pushed);
+    }
+
+    pub fn push(&mut self, c: char) {
         let is_pushed = self.text.push(c).is_ok();
-        self.is_cut = self.is_cut || !is_pushed;
+        self.note(is_pushed);
+    }
+
+    /// Two texts, one behind the other.
+    pub fn put(&mut self, one: &str, other: &str) {
+        self.push_str(one);
+        self.push_str(other);
+    }
+
+    /// A text behind a mark.
+    pub fn marked(&mut self, mark: char, text: &str) {
+        self.push(mark);
+        self.push_str(text);
+    }
+
+    /// A text in double quotes.
+    pub fn quoted(&mut self, text: &str) {
+        self.push('"');
+        for c in text.chars() {
+            match c {
+                '\n' => self.push_str("\\n"),
+                '"' => self.push_str("\\\""),
+                '\\' => self.push_str("\\\\"),
+                other => self.push(other),
+            }
+        }
+        self.push('"');
+    }
+
+    /// A value as it is displayed.
+    pub fn show<T: fmt::Display>(&mut self, value: &T) {
+        let is_pushed = write!(self.text, "{value}").is_ok();
+        self.note(is_pushed);
+    }
+
+    /// A line of a word and a value as it is displayed.
+    pub fn shown_line<T: fmt::Display>(&mut self, word: &str, value: &T) {
+        self.put(word, " ");
+        self.show(value);
+        self.close();
+    }
+
+    /// A value at a place: its line, its column and itself.
+    pub fn place<T: fmt::Display>(&mut self, line: usize, column: usize, value: &T) {
+        self.show(&line);
+        self.push(' ');
+        self.show(&column);
+        self.push(' ');
+        self.show(value);
+    }
+
+    /// The MD5 digest of other lines.
+    pub fn digest(&mut self, said: &Dump) {
+        let digest = u128::from_be_bytes(Md5::digest(said.text.as_bytes()));
+        let is_pushed = write!(self.text, "{digest:032x}").is_ok();
+        self.note(is_pushed && !said.is_cut);
     }
 
     /// Begins the line of an element of this kind.
@@ -65,24 +130,16 @@ impl Dump {
         self.push_str(word);
     }
 
-    /// A value as it is displayed.
+    /// A value as it is displayed, behind its key.
     pub fn shown<T: fmt::Display>(&mut self, key: &str, value: &T) {
-        let is_pushed = write!(self.text, " {key}={value}").is_ok();
-        self.is_cut = self.is_cut || !is_pushed;
+        self.word(key, "");
+        self.show(value);
     }
 
     /// A value that is text, in quotes.
     pub fn text(&mut self, key: &str, text: &str) {
-        self.word(key, "\"");
-        for c in text.chars() {
-            match c {
-                '\n' => self.push_str("\\n"),
-                '"' => self.push_str("\\\""),
-                '\\' => self.push_str("\\\\"),
-                other => self.push(other),
-            }
-        }
-        self.push('"');
+        self.word(key, "");
+        self.quoted(text);
     }
 
     /// A value that is text, where it is there.

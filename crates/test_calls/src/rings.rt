@@ -1,0 +1,26 @@
+//! Styles whose macros call each other in no ring.
+ghost use Rattle.std.specs.Prelude.{IfOk};
+ghost use Rattle.csl_style_values.specs.Ring.{HasNoRing};
+ghost use Rattle.csl_writing.specs.ContextSource.{context_source};
+
+use cite_document::error::RunError;
+use csl_base::locale::Locale;
+use csl_base::style::IndependentStyle;
+use csl_lookup::lookup::StyleLocales;
+use csl_writing::lookup::StyleContext;
+use std::alloc::Global;
+
+/// The style with these locale files.
+pub(crate) fn ringless<'a>(
+    alloc: Global,
+    style: &'a IndependentStyle,
+    files: &'a [Locale],
+) -> Result<StyleContext<'a>, RunError>
+    ensures { IfOk result (λ context. HasNoRing (context_source context).style.macros) }
+{
+    let source = StyleLocales::new(style, None, files);
+    match source.ring(alloc)? {
+        Some(_) => Err(RunError::Document),
+        None => Ok(StyleContext::of_locales(source)),
+    }
+}
