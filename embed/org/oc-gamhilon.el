@@ -43,7 +43,8 @@
   :type 'string)
 
 (defcustom org-cite-gamhilon-arguments nil
-  "More arguments for the program, such as (\"--locales\" \"~/locales\")."
+  "More arguments for the program, such as (\"--locales\" \"/srv/locales\").
+Paths are whole: Emacs expands no ~ in them."
   :type '(repeat string))
 
 (defconst org-cite-gamhilon--labels

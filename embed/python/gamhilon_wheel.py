@@ -100,6 +100,7 @@ def files():
     for name in sorted(os.listdir(STYLES)):
         if name.endswith('.csl'):
             found[f'{NAME}/style_files/{name}'] = read(f'{STYLES}/{name}')
+    found[f'{NAME}/org/oc-gamhilon.el'] = read(f'{ROOT}/embed/org/oc-gamhilon.el')
     found[f'{NAME}/libgamhilon.so'] = read(library)
     found[f'{NAME}/gamhilon_build.json'] = read(note) if os.path.exists(note) else b'{}\n'
     info = f'{NAME}-{version()}.dist-info'

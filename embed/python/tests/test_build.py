@@ -67,6 +67,7 @@ def tree(tmp_path, monkeypatch):
                     ignore=shutil.ignore_patterns('__pycache__'))
     for name in ('LICENSE', 'LICENSE-MIT', 'LICENSE-APACHE'):
         shutil.copy(f'{ROOT}/{name}', root)
+    shutil.copytree(f'{PROJECT}/../org', root / 'embed' / 'org')
     shutil.copytree(f'{ROOT}/examples/styles', root / 'examples' / 'styles')
     for name in ('gamhilon_c', 'cite_run', 'gamhilon', 'english_locale/src'):
         (root / 'crates' / name).mkdir(parents=True)

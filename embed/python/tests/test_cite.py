@@ -68,6 +68,12 @@ def test_texts_are_handed_on_as_they_are(made_up_texts):
     assert str(answer.warnings[0]) == 'items: /0/titel: unknown key, left out'
 
 
+def test_abbreviations_are_an_option(made_up_texts):
+    library = made_up_texts({'warnings': []}, text=b'{"citations":[]}')
+    gamhilon.cite('ä', [], [], abbreviations={'default': {}})
+    assert json.loads(library.texts[0][4]) == {'abbreviations': {'default': {}}}
+
+
 def test_without_options_there_are_none(made_up_texts):
     library = made_up_texts({'warnings': []}, text=b'{"citations":[]}')
     assert gamhilon.cite(b'\xff', b'[]', []).warnings == []

@@ -204,7 +204,8 @@ def test_a_reader_that_has_read_enough_sees_no_traceback(module, words):
     assert b'Traceback' not in done.stderr
 
 
-@pytest.mark.parametrize('command', ['cite', 'bibliography', 'markdown', 'latex', 'render', 'check',
+@pytest.mark.parametrize('command', ['cite', 'bibliography', 'markdown', 'latex', 'org', 'render',
+                                     'check',
                                      'entries', 'styles', 'sample', 'diff', 'test', 'css'])
 def test_the_help_of_each_command_begins_with_what_it_is(command):
     status, out, error = run(command, '--help')

@@ -612,6 +612,45 @@ def test_locales_are_files_or_texts(cites, tmp_path):
         csl.render(style, [], [], locales=['none.xml'])
 
 
+SHORT_CONTAINER = '<text variable="container-title" form="short"/>'
+ABBREVIATIONS = {'default': {'container-title': {'Journal of Lakes': 'J. Lakes'}}}
+
+
+def test_abbreviations_are_a_file_or_what_it_has(cites, tmp_path):
+    path = tmp_path / 'abbreviations.json'
+    path.write_text(json.dumps(ABBREVIATIONS))
+    style = style_of(SHORT_CONTAINER, layout_attributes='')
+    article = {**entry('one'), 'container-title': 'Journal of Lakes'}
+    for given in (ABBREVIATIONS, str(path), path):
+        told = csl.render(style, [article], [[{'id': 'one'}]], abbreviations=given)
+        assert (told.citations, told.warnings) == (['J. Lakes'], [])
+    own = {**article, 'container-title-short': 'Lakes'}
+    told = csl.render(style, [own], [[{'id': 'one'}]], abbreviations=ABBREVIATIONS)
+    assert told.citations == ['Lakes']
+
+
+def test_what_is_no_file_of_abbreviations_is_refused(cites, tmp_path):
+    style = style_of(SHORT_CONTAINER)
+    with pytest.raises(csl.AbbreviationsRefused, match='^the abbreviations: wanted an object of'):
+        csl.render(style, [], [], abbreviations={'container-title': {}})
+    fault = '^the abbreviations: /default/container-title: wanted an object of short forms'
+    with pytest.raises(csl.AbbreviationsRefused, match=fault):
+        csl.render(style, [], [], abbreviations={'default': {'container-title': 'J.'}})
+    path = tmp_path / 'abbreviations.json'
+    path.write_text('{"default":\nx}')
+    with pytest.raises(csl.AbbreviationsRefused, match=r'abbreviations.json:2:1: no JSON: '):
+        csl.render(style, [], [], abbreviations=path)
+
+
+@pytest.mark.parametrize('tag', ['de_AT', 'DE-at', 'de-AT'])
+def test_a_language_may_have_an_underscore_or_other_capitals(tag, tmp_path):
+    for name in ('de-AT', 'de-DE'):
+        (tmp_path / f'locales-{name}.xml').write_text('<locale/>')
+    found = locales.files_for(tag, str(tmp_path))
+    assert [file.file for file in found] == [f'{tmp_path}/locales-{name}.xml'
+                                             for name in ('de-AT', 'de-DE')]
+
+
 def test_a_language_without_a_locale_file_is_told(cites):
     told = csl.render(style_of('<text term="and"/>', layout_attributes=''), [entry('one')],
                       [[{'id': 'one'}]], locale='xx-XX')

@@ -55,9 +55,25 @@ def test_published_styles_of_the_documentation(published, cites):
 
 
 @pytest.mark.parametrize('page, locator', [('README.md', '84'), ('embed/README.md', 'p. 84'),
-                                           ('embed/python/README.md', 'p. 84')])
+                                           ('embed/python/README.md', 'p. 84'),
+                                           ('docs/GUIDES/PYTHON.md', 'p. 84')])
 def test_the_style_of_the_readme(page, locator, published, cites, monkeypatch):
     monkeypatch.chdir(f'{ROOT}/embed/python/example')
     first, *items = printed(block(page, 'gamhilon.csl.render')).splitlines()
     assert first == f'(<a href="#ref-darwin">Darwin 1859, {locator}</a>)'
     assert '<div id="ref-darwin" class="csl-entry">' in ''.join(items)
+
+
+def test_the_error_of_the_guide():
+    assert printed(block('docs/GUIDES/PYTHON.md', 'GamhilonError')) == 'StyleMissing\n'
+
+
+def test_the_calls_of_the_guide_are_there():
+    with open(f'{ROOT}/docs/GUIDES/PYTHON.md', encoding='utf-8') as file:
+        calls = re.findall(r'`([a-z_]+(?:\.[A-Za-z_]+)?)\(', file.read().split('## Results')[0])
+    assert len(calls) >= 12
+    for call in calls:
+        found = gamhilon
+        for name in call.split('.'):
+            assert name in dir(found)
+            found = getattr(found, name)

@@ -52,7 +52,8 @@ def test_the_style_sheet_of_the_page_is_html_where_it_is_asked_for(made_up_style
     '``[@doe99] ` ``', '[link @doe99](http://x)', '[@doe99](http://x "[@doe99]")', 'a@doe99',
     '<a@doe99>', '<http://x/@doe99>', 'https://x.org/@doe99/a', '![@doe99](x.png)', '\\@doe99',
     '\\[\\@doe99\\]', '$@doe99$', '$$\n@doe99\n$$', '{{< cite "@doe99" >}}', '{% cite @doe99 %}',
-    '[[@doe99]]', '<span title="@doe99">x</span>', '[x]: http://x/@doe99',
+    '[[@doe99]]', '![[@doe99.png]]', '> [!note]\n> [[@doe99|Doe]]',
+    '<span title="@doe99">x</span>', '[x]: http://x/@doe99',
     '<script>\nlet a = "[@doe99]"\n</script>', '<code>@doe99</code>', 'x[^@doe99]',
 ])
 def test_what_is_left_alone(text, made_up_style):
@@ -74,6 +75,7 @@ def test_where_citations_stand(text, made_up_style):
 def test_a_citation_may_be_broken(made_up_style):
     assert text_of('a [see\n@doe99,\np. 4] b') == 'a (see Doe, On Order, 4) b'
     assert text_of('> a [@doe99,\n> p. 4] b') == '> a (Doe, On Order, 4) b'
+    assert text_of('> [!note] As @doe99\n> [p. 4] b') == '> [!note] As Doe (On Order, 4) b'
     assert text_of('a @doe99\n[p. 4] b') == 'a Doe (On Order, 4) b'
     assert page_of('a [@doe99]\r\nb\r\n', links=False).text.startswith(
         'a (Doe, On Order)\r\nb\r\n\r\n<div id="refs"')
@@ -252,6 +254,36 @@ def test_the_command(made_up_style, tmp_path, monkeypatch, capsys):
     assert (tmp_path / 'out' / 'one.md').read_text().startswith('(Roe, A Reply)')
 
 
+def test_folders_of_pages(made_up_style, tmp_path, monkeypatch, capsys):
+    monkeypatch.chdir(tmp_path)
+    (tmp_path / 'refs.json').write_text(json.dumps(REFERENCES))
+    for name in ('one.md', 'pages/two.md', 'pages/picture.png', '.trash/old.md', '.hidden.md'):
+        (tmp_path / 'site' / name).parent.mkdir(parents=True, exist_ok=True)
+        (tmp_path / 'site' / name).write_text('[@doe99]')
+    words = ['markdown', '--bibliography', 'refs.json', 'site', '--output', 'site/cited']
+
+    def written(*more):
+        assert run([*words, *more], capsys) == (0, '', '')
+        folder = tmp_path / 'site' / 'cited'
+        return {str(path.relative_to(folder)): path.read_text() for path in folder.rglob('*.*')}
+
+    made = written()
+    assert sorted(made) == ['one.md', 'pages/two.md'] and '@' not in made['one.md']
+    made = written('--copy-files')
+    assert sorted(made) == ['one.md', 'pages/picture.png', 'pages/two.md']
+    assert made['pages/picture.png'] == '[@doe99]'
+    in_place = ['markdown', '--bibliography', 'refs.json', 'site', '--output', 'site']
+    assert run([*in_place, '--copy-files'], capsys) == (0, '', '')
+    assert '@' not in (tmp_path / 'site' / 'one.md').read_text()
+
+
+def test_a_prepared_style_stands_for_a_style_and_its_references(made_up_style):
+    style = markdown_pages.PreparedStyle('author-date', REFERENCES, 'de')
+    for text in ('[@doe99, S. 3]', '[@roe00] and [@doe01]'):
+        assert markdown_pages.cite_page(text, style) == \
+            markdown_pages.cite_page(text, 'author-date', REFERENCES, locale='de')
+
+
 @pytest.mark.parametrize('more, status, said', [
     (['none.md'], 1, 'none.md: No such file'), (['page.md', '--style', 'no'], 1, 'no style'),
     (['page.md', 'page.md'], 64, 'by --output'),
@@ -266,23 +298,3 @@ def test_what_the_command_refuses(more, status, said, made_up_style, tmp_path, m
     (tmp_path / 'latin.md').write_bytes(b'\xe4')
     told = run(['markdown', '--bibliography', 'refs.json', *more], capsys)
     assert told[:2] == (status, '') and said in told[2]
-
-
-def test_a_page_written_anew_is_as_if_all_were(made_up_style):
-    pages = {'one': 'A [@doe99].\n\nB @roe00, c[^n].\n\n[^n]: In [@doe01].\n',
-             'two': 'D [@roe00].\n'}
-    edited = 'New [@doe99], and [@nobody].\n\nMore\n\n@roe00 c[^n].\n\n[^n]: As in [@doe01].\n'
-    for style in ('author-date', 'notes'):
-        def site_of(texts):
-            site = markdown_pages.Site(style, REFERENCES)
-            for name, text in texts.items():
-                site.add(name, text)
-            site.write()
-            return site
-        site, fresh = site_of(pages), site_of({**pages, 'one': edited})
-        assert site.rewrite('one', edited)
-        assert [site.page(name) for name in pages] == [fresh.page(name) for name in pages]
-        for other in ('A [@doe99].\n', edited.replace('@doe99', '@roe00'), edited + '\n[@doe99]\n'):
-            before = [site.page(name) for name in pages]
-            assert not site.rewrite('one', other)
-            assert [site.page(name) for name in pages] == before

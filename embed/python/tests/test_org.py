@@ -1,6 +1,7 @@
 """The export processor for the citations of Org (embed/org/oc-gamhilon.el)."""
 import json
 import os
+import re
 import shutil
 import subprocess
 import sys
@@ -92,6 +93,17 @@ def export(tmp_path):
 def first(out):
     """The first paragraph, on one line."""
     return ' '.join(out.strip().split('\n\n')[0].split())
+
+
+def test_the_lines_of_the_guide_load_it(export, monkeypatch):
+    monkeypatch.setenv('PYTHONPATH', SOURCE)
+    with open(f'{ROOT}/docs/GUIDES/ORG.md', encoding='utf-8') as file:
+        lines = re.search(r'```elisp\n(.*?)```', file.read(), re.DOTALL).group(1)
+    assert '"python3"' in lines
+    lines = lines.replace('"python3"', json.dumps(sys.executable))
+    status, out, error = export.emacs('--eval', f'(progn {lines} (princ (featurep '
+                                      "'oc-gamhilon)))")
+    assert (status, out) == (0, 't'), error
 
 
 def test_it_compiles_without_a_warning(export):

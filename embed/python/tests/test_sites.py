@@ -8,7 +8,7 @@ import pytest
 from conftest import PROJECT, REFERENCES
 from stand_ins import MadeUpStyle
 
-from gamhilon import _library
+from gamhilon import _library, styles
 
 markdown = pytest.importorskip('markdown', reason='there is no Python-Markdown '
                                                   '(Debian: python3-markdown)')
@@ -77,6 +77,24 @@ def test_it_is_found_by_its_name(place, caplog):
     assert caplog.messages == ['the page:1:1: no entry has the key nobody']
 
 
+def test_references_are_read_once_for_all_pages(place, monkeypatch, caplog):
+    from gamhilon import references
+    read = []
+    real = references.load
+    monkeypatch.setattr(references, 'load',
+                        lambda path, **how: read.append(path) or real(path, **how))
+    (place / 'refs.json').write_text(json.dumps([*REFERENCES, 7]))
+    for _ in range(3):
+        assert 'Doe, On Order' in html_of('[@doe99]')
+    assert read == ['refs.json'] and caplog.messages == ['refs.json: item 4 is not an object']
+    (place / 'refs.json').write_text(json.dumps([{**REFERENCES[0], 'title': 'Another'}]))
+    assert 'Doe, Another' in html_of('[@doe99]') and len(read) == 2
+    (place / 'own.csl').write_text(styles.text('notes'))
+    assert 'class="footnote' in html_of('[@doe99]', style='own.csl')
+    (place / 'own.csl').write_text(styles.text('numeric'))
+    assert 'class="footnote' not in html_of('[@doe99]', style='own.csl')
+
+
 SITE = {
     'index.md': '---\ntitle: Home\n---\n# First\n\n[@roe00] and [see @doe99, p. 3].\n',
     'sub/two.md': '# Two\n\n[@doe01]\n\n```\n@doe01\n```\n',
@@ -137,6 +155,15 @@ def test_what_mkdocs_says_of_a_page(built, caplog):
     assert 'index.md:3:1: no entry has the key nobody' in caplog.messages
 
 
+def test_what_mkdocs_says_of_references_it_says_again(built, place, caplog):
+    (place / 'odd.json').write_text(json.dumps([REFERENCES[0], 7]))
+    for text in ('# A\n\n[@doe99]\n', '# A\n\nB [@doe99]\n'):
+        caplog.clear()
+        with caplog.at_level(logging.WARNING):
+            built({'index.md': text}, bibliography='odd.json')
+        assert f'{place}/odd.json: item 1 is not an object' in caplog.messages
+
+
 def test_what_mkdocs_refuses(built, caplog):
     from mkdocs.exceptions import Abort
     for options, said in (({'style': 'none'}, 'no style'), ({'list_page': 'x.md'}, 'no page x.md'),
@@ -156,6 +183,9 @@ def test_a_page_that_is_edited_is_written_alone(built, place, monkeypatch):
     pages = built(edited, list_page='works.md')
     assert len(calls) == 1
     assert 'New words (<a href="../../works/#ref-doe01">Doe, More</a>)' in pages['sub/two.md']
+    again = built(edited, list_page='works.md')
+    assert len(calls) == 1
+    assert all(again[name].split('<!--')[0] == pages[name].split('<!--')[0] for name in pages)
     pages = built({**edited, 'sub/two.md': '# Three\n\nNew words [@roe00]\n'}, list_page='works.md')
     assert len(calls) == 2 and 'A Reply</a>)' in pages['sub/two.md']
     assert re.findall('id="ref-(.*?)"', pages['works.md']) == ['doe99', 'roe00']

@@ -84,6 +84,8 @@ def test_the_package_passes(folder):
 DOCUMENTED = [
     ('README.md', 'gamhilon.csl.render', ''), ('embed/README.md', 'gamhilon.csl.render', ''),
     ('embed/python/README.md', 'gamhilon.csl.render', ''),
+    ('docs/GUIDES/PYTHON.md', 'gamhilon.csl.render', ''),
+    ('docs/GUIDES/PYTHON.md', 'gamhilon.GamhilonError', ''),
 ]
 
 

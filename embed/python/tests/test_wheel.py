@@ -51,7 +51,8 @@ def test_it_has_what_a_user_needs(wheel):
         info = next(name.split('/')[0] for name in names if '.dist-info/' in name)
         for name in ('__init__.py', '__main__.py', 'py.typed', 'libgamhilon.so',
                      'gamhilon_build.json',
-                     'csl/__init__.py', 'gamhilon.css', 'tex/gamhilon.sty'):
+                     'csl/__init__.py', 'gamhilon.css', 'tex/gamhilon.sty',
+                     'org/oc-gamhilon.el'):
             assert f'gamhilon/{name}' in names
         for name in ('author-date', 'labels', 'notes', 'numeric'):
             with open(f'{ROOT}/examples/styles/{name}.csl', 'rb') as file:
@@ -62,7 +63,8 @@ def test_it_has_what_a_user_needs(wheel):
                 assert archive.read(f'{info}/{name}') == file.read()
         entry_points = archive.read(f'{info}/entry_points.txt').decode()
         assert 'gamhilon-pandoc = gamhilon.pandoc_filter:main' in entry_points
-        assert '[mkdocs.plugins]\ngamhilon = gamhilon.mkdocs_plugin:CitationPlugin\n' in entry_points
+        assert '[mkdocs.plugins]\ngamhilon = gamhilon.mkdocs_plugin:CitationPlugin\n' \
+            in entry_points
         assert '[markdown.extensions]\ngamhilon = gamhilon.python_markdown:' in entry_points
         for line in archive.read(f'{info}/RECORD').decode().splitlines():
             name, checksum, size = line.rsplit(',', 2)

@@ -64,8 +64,8 @@ pub struct Texts<'t> {
     pub items: &'t [u8],
     /// A JSON list of citations, which are lists of cites (docs/WRITER.md).
     pub citations: &'t [u8],
-    /// A JSON object: `locale`, a language tag, and `nocite`, whether items that aren't cited are
-    /// listed.
+    /// A JSON object: `locale`, a language tag; `nocite`, whether items that aren't cited are
+    /// listed; and `abbreviations`, short forms of texts (docs/STYLE_FILES.md).
     pub options: &'t [u8],
 }
 

@@ -3,7 +3,7 @@
     from gamhilon import csl
 
     rendered = csl.render('apa', 'library.bib', [[{'id': 'doe99', 'locator': '4'}]])
-    print(*rendered.citations, rendered.bibliography, sep='\n')
+    print(*rendered.citations, rendered.bibliography, sep='\\n')
     page = rendered.to_html(links=True)
 
 What is there:
@@ -11,21 +11,22 @@ What is there:
 - `csl.render` writes citations and a bibliography in a style: a published one, one of the package
   (`styles`), or one of a file. `cite` is the same from texts alone.
 - `parse_citations` and `find_citations` read citations in pandoc's notation, `[see @doe99, p. 3]`;
-  `markdown_pages` writes those of whole pages of Markdown.
+  `markdown_pages` writes those of whole pages of Markdown, `latex_documents` those of LaTeX.
 - `references.load` reads the files of reference managers: CSL-JSON, BibLaTeX, BibTeX, hayagriva.
 - `render_document` answers a document of the driver's own form (docs/DOCUMENT.md), whose entries
   `csl_json` makes of CSL-JSON; given `write`, a host writes each cite itself (docs/DRIVEN.md).
 - `to_html`, `to_markdown` and `to_latex` write trees of an answer, `style_sheet` lays out lists.
 
-All that the package raises by itself is a `GamhilonError`. `python -m gamhilon` does the same from
-the command line. Calls may be made from any number of threads and processes at once.
+Each error that the package raises by itself is a `GamhilonError`, but for the TypeError of wrong
+arguments. What is odd is in the `warnings` of what a call gives. `python -m gamhilon` does the same
+from the command line. Calls may be made from any number of threads and processes at once.
 """
 from __future__ import annotations
 
 import json
-from typing import Any, Dict, List, Optional, Sequence, Union
+from typing import Any, Dict, List, Mapping, Optional, Sequence, Union
 
-from . import csl, csl_json, markdown_pages, references, styles
+from . import csl, csl_json, latex_documents, markdown_pages, references, styles
 from ._citing import Json, cite_texts, texts_of
 from ._deprecated import deprecated
 from ._driving import Missing, State, Task, Writer, Written, drive_bytes, render_with_all
@@ -35,8 +36,9 @@ from ._version import Version, __version__, version
 from .answer import Answer, Bibliography, Citation, Item, Node, Tree, answer_of, plain
 from .citation_text import (CitationTextRefused, TextCitation, find_citations,
                             parse_citations)
-from .errors import (DocumentRefused, GamhilonError, LibraryMissing, LimitExceeded, MacroRing,
-                     NumberOverflow, OutOfMemory, Refused, TextRefused, TooDeep, TooManyElements)
+from .errors import (DocumentRefused, GamhilonError, LibraryFailed, LibraryMissing, LimitExceeded,
+                     LimitsRefused, MacroRing, NumberOverflow, OutOfMemory, Refused, TextRefused,
+                     TooDeep, TooManyElements)
 from .html_writer import bibliography_to_html, style_sheet, to_html
 from .latex_writer import bibliography_to_latex, to_latex
 from .markdown_writer import bibliography_to_markdown, to_markdown
@@ -44,14 +46,15 @@ from .texts import TextFault, TextWarning
 
 __all__ = [
     'Answer', 'Bibliography', 'Citation', 'CitationTextRefused', 'Document', 'DocumentRefused',
-    'GamhilonError', 'Item', 'LibraryMissing', 'LimitExceeded', 'Limits', 'MacroRing', 'Missing',
-    'Node', 'NumberOverflow', 'OutOfMemory', 'Refused', 'State', 'Task', 'TextCitation',
-    'TextFault', 'TextRefused', 'TextWarning', 'TooDeep', 'TooManyElements', 'Tree', 
-    'Version', 'Writer', 'Written', '__version__', 'bibliography_to_html', 'bibliography_to_latex',
-    'bibliography_to_markdown', 'check', 'cite', 'csl', 'csl_json', 'drive_once',
-    'find_citations', 'markdown_pages', 'parse_citations', 'plain', 'print_document', 'print_json',
-    'references', 'render', 'render_document', 'render_with', 'style_sheet', 'styles',
-    'to_html', 'to_latex', 'to_markdown', 'version',
+    'GamhilonError', 'Item', 'LibraryFailed', 'LibraryMissing', 'LimitExceeded', 'Limits',
+    'LimitsRefused', 'MacroRing', 'Missing', 'Node', 'NumberOverflow', 'OutOfMemory', 'Refused',
+    'State', 'Task', 'TextCitation', 'TextFault', 'TextRefused', 'TextWarning', 'TooDeep',
+    'TooManyElements', 'Tree', 'Version', 'Writer', 'Written', '__version__',
+    'bibliography_to_html', 'bibliography_to_latex', 'bibliography_to_markdown', 'check', 'cite',
+    'csl', 'csl_json', 'drive_once', 'find_citations', 'latex_documents', 'markdown_pages',
+    'parse_citations', 'plain', 'print_document', 'print_json', 'references', 'render',
+    'render_document', 'render_with', 'style_sheet', 'styles', 'to_html', 'to_latex', 'to_markdown',
+    'version',
 ]
 
 Document = Union[Dict[str, Any], str, bytes]
@@ -108,7 +111,7 @@ def render_document(document: Document, *, limits: Optional[Limits] = None,
     host writes itself: `write` is called once for each task that the driver asks for, and gives
     what was written. What the document has in `written` isn't asked for. The document is handed in
     again with what was written, in all at most three times more than rounds of disambiguation mark,
-    or five times where its `rounds` is `csl`.
+    or ten times where its `rounds` is `csl`.
 
     Raises DocumentRefused, MacroRing, NumberOverflow or OutOfMemory, each a Refused, where there is
     no answer, and LibraryMissing where there is no library; and what `write` raises. Where there
@@ -129,17 +132,19 @@ def render(document: Document, *, limits: Optional[Limits] = None) -> Answer:
     return render_document(document, limits=limits)
 
 
-def cite(style: Union[str, bytes], items: Json, citations: Json, *,
-         locales: Sequence[str] = (), locale: Optional[str] = None,
-         nocite: bool = False) -> Answer:
+def cite(style: Union[str, bytes], items: Union[Json, references.References], citations: Json, *,
+         locales: Sequence[str] = (), locale: Optional[str] = None, nocite: bool = False,
+         abbreviations: Optional[Mapping[str, Any]] = None) -> Answer:
     """Citations and a bibliography by a style file, from texts alone (docs/WRITER.md).
 
-    `style` is the text of a style file of CSL 1.0.2, `items` CSL-JSON, and `citations` a list of
-    citations. These are lists of cites, or objects as in csl-citation.json; cites are dicts with
-    `id`, and maybe `locator`, `label`, `prefix`, `suffix`, `suppress-author`, `author-only`,
-    `hidden` and `note`. Items and citations may be JSON or its value.
+    `style` is the text of a style file of CSL 1.0.2, `items` CSL-JSON or what `references.load`
+    gives, and `citations` a list of citations. These are lists of cites, or objects as in
+    csl-citation.json; cites are dicts with `id`, and maybe `locator`, `label`, `prefix`, `suffix`,
+    `suppress-author`, `author-only`, `hidden` and `note`. Items and citations may be JSON or its
+    value.
     `locales` are the texts of locale files, beside that of American English, which is built in;
     `locale` is a language tag, in place of the style's. With `nocite` all items are listed.
+    `abbreviations` are short forms of texts, as the JSON of pandoc and Zotero has them.
 
         answer = gamhilon.cite(open('apa.csl').read(), items, [[{'id': 'doe99', 'locator': '4'}]])
 
@@ -147,7 +152,8 @@ def cite(style: Union[str, bytes], items: Json, citations: Json, *,
     NumberOverflow or OutOfMemory, each a Refused, where there is no answer, and LibraryMissing
     where there is no library, or one that is older than this call.
     """
-    return cite_texts(texts_of(style, items, citations, locales, locale, nocite))
+    given = items.items if isinstance(items, references.References) else items
+    return cite_texts(texts_of(style, given, citations, locales, locale, nocite, abbreviations))
 
 
 def drive_once(document: Document) -> Union[Answer, Missing]:

@@ -17,6 +17,7 @@ from ._console import (INPUT_OR_OUTPUT_FAILED, NOT_OF_ITS_FORM, json_text, name_
 from ._latex_command import add_latex, latex_command
 from ._limits import DEFAULT_DEPTH, DEFAULT_ELEMENTS, UNLIMITED
 from ._markdown_command import add_markdown, markdown_command
+from ._org_command import add_org, org_command
 from ._render_folder import Job, page_of, render_folder
 from ._style_commands import COMMANDS, add_style_commands, run_style_command
 from .errors import LibraryMissing, Refused
@@ -84,6 +85,7 @@ def parser() -> argparse.ArgumentParser:
     _add_cite(commands)
     add_markdown(commands)
     add_latex(commands)
+    add_org(commands)
     _add_render(commands)
     checked = commands.add_parser('check', help='what is wrong in styles, locales, documents and '
                                                 'references, or what they hold')
@@ -123,6 +125,8 @@ def _add_cite(commands: Any) -> None:
                                'this package')
         made.add_argument('--locale', metavar='TAG', help="the language, in place of the style's")
         made.add_argument('--locales', metavar='FOLDER', help='where locale files are')
+        made.add_argument('--abbreviations', metavar='FILE',
+                          help='short forms, as of the titles of journals, in JSON')
         made.add_argument('--nocite', action='store_true',
                           help='references are listed that no cite is of')
         _add_forms(made)
@@ -214,8 +218,9 @@ def _inputs(words: argparse.Namespace) -> int:
 
 def _asked(words: argparse.Namespace) -> Asked:
     """What a command line of `cite` or `bibliography` asks for."""
-    return Asked(words.style, words.styles, words.locale, words.locales, words.to,
-                 words.standalone, [words.references, *words.more], words.citations, words.nocite)
+    return Asked(words.style, words.styles, words.locale, words.locales, words.abbreviations,
+                 words.to, words.standalone, [words.references, *words.more], words.citations,
+                 words.nocite)
 
 
 def run(words: argparse.Namespace) -> int:
@@ -230,6 +235,8 @@ def run(words: argparse.Namespace) -> int:
             return markdown_command(words)
         elif words.command == 'latex':
             return latex_command(words)
+        elif words.command == 'org':
+            return org_command()
         elif words.command == 'render':
             job = Job(words.to, words.standalone, Limits(words.depth, words.elements))
             return render_command(words.document, words.output, job, words.jobs)

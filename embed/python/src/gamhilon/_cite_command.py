@@ -22,6 +22,7 @@ class Asked:
     styles: Optional[str]
     locale: Optional[str]
     locales: Optional[str]
+    abbreviations: Optional[str]
     form: str
     is_standalone: bool
     references: Sequence[str]
@@ -102,7 +103,8 @@ def _rendered(asked: Asked, works: Works) -> Tuple[csl.Rendered, int]:
         style = _style(asked)
         with _console.progress(f'citing in {asked.style}'):
             rendered = csl.render(style, list(works.items.values()), citations,
-                                  locale=asked.locale, locales=asked.locales)
+                                  locale=asked.locale, locales=asked.locales,
+                                  abbreviations=asked.abbreviations)
     except csl.CitationRefused as error:
         raise _Failed(f'{name_of(str(asked.citations))}: {error}', NOT_OF_ITS_FORM) from error
     except Refused as error:

@@ -2,11 +2,17 @@
 from __future__ import annotations
 
 from dataclasses import dataclass
-from typing import Any, Dict, Iterable, List, Optional, Sequence, Set
+from functools import cached_property
+from typing import Any, Dict, Iterable, List, Mapping, Optional, Sequence, Set
 
 from . import csl
+from ._locators import words_of
 from ._pandoc_marks import without_marks
 from .answer import Bibliography, Tree
+from .csl.abbreviations import abbreviations_of
+from .csl.cites import CitationReader
+from .csl.rendering import Renderer
+from .csl.style import load
 
 Item = Dict[str, Any]
 
@@ -30,6 +36,10 @@ class PageCitation:
         """The cites of a style: without the author that stands in the text, unless it is kept."""
         raise NotImplementedError
 
+    def asked(self, keeps_authors: bool) -> csl.Citation:
+        """The citation of a style that has these cites."""
+        return csl.Citation(tuple(self.cites(keeps_authors)))
+
 
 @dataclass(frozen=True)
 class Answered:
@@ -43,32 +53,43 @@ class Answered:
 
 
 class CitedStyle:
-    """A style, by its name, the path of its file or its text, with the references of pages. Raises
-    StyleMissing and StyleRefused."""
+    """A style, by its name, the path of its file or its text, with the references of pages and
+    abbreviations. Raises StyleMissing, StyleRefused and AbbreviationsRefused."""
 
     def __init__(self, name: str, locale: Optional[str] = None,
-                 locales: Optional[csl.Locales] = None) -> None:
+                 locales: Optional[csl.Locales] = None,
+                 abbreviations: Optional[csl.AbbreviationsLike] = None) -> None:
         self.name, self.locale, self.locales = name, locale, locales
+        self._abbreviations = abbreviations_of(abbreviations)
         self.about = csl.about(name)
         self.is_note = self.about.is_note
         self.items: Dict[str, Item] = {}
         self.keys: Set[str] = set()
+        self._renderer: Optional[Renderer] = None
+
+    @cached_property
+    def words(self) -> Mapping[str, str]:
+        """The words of locators in its language."""
+        return words_of(self.locale, self.locales)
 
     def take(self, items: Iterable[Item]) -> None:
         """Takes references. The first of a key counts."""
         for item in items:
             self.items.setdefault(str(item['id']), without_marks(item))
         self.keys = set(self.items)
+        self._renderer = None
 
     def answer(self, citations: Sequence[PageCitation], nocite: Sequence[str]) -> Answered:
         """Writes citations, and the list of what they cite and of what is listed without being
         cited."""
-        rendered = self._rendered(citations, nocite, keeps_authors=False)
+        reader = CitationReader()
+        asked = reader.citations(self._asked(citations, nocite, keeps_authors=False))
+        rendered = self._rendering().render(asked, warnings=reader.warnings)
         trees = [citation.content for citation in rendered.answer.citations]
         whole = trees
         if any(citation.names_author for citation in citations):
-            again = self._rendered(citations, nocite, keeps_authors=True)
-            whole = [citation.content for citation in again.answer.citations]
+            again = self._asked(citations, nocite, keeps_authors=True)
+            whole = self._rendering().trees(CitationReader().citations(again))
         places = _places(citations, self.is_note)
         with_authors = [whole[place] if citation.names_author else None
                         for place, citation in zip(places, citations)]
@@ -79,17 +100,24 @@ class CitedStyle:
                         rendered.answer.bibliography,
                         [_of_page(warned, numbers) for warned in warnings])
 
-    def _rendered(self, citations: Sequence[PageCitation], nocite: Sequence[str],
-                  keeps_authors: bool) -> csl.Rendered:
-        asked: List[List[csl.Cite]] = []
+    def _asked(self, citations: Sequence[PageCitation], nocite: Sequence[str],
+               keeps_authors: bool) -> List[csl.Citation]:
+        """What the style is asked for."""
+        asked: List[csl.Citation] = []
         for number, citation in enumerate(citations):
             if self.is_note and _repeats(citations, number):
                 asked.append(_between(citations[number - 1]))
-            asked.append(citation.cites(keeps_authors))
+            asked.append(citation.asked(keeps_authors))
         if nocite:
-            asked.append([csl.Cite(key, hidden=True) for key in nocite])
-        return csl.render(self.name, list(self.items.values()), asked, locale=self.locale,
-                          locales=self.locales)
+            asked.append(csl.Citation(tuple(csl.Cite(key, hidden=True) for key in nocite)))
+        return asked
+
+    def _rendering(self) -> Renderer:
+        """The style with its references, which are read once."""
+        if self._renderer is None:
+            self._renderer = Renderer(load(self.name), list(self.items.values()), self.locale,
+                                      self.locales, self._abbreviations)
+        return self._renderer
 
 
 def _repeats(citations: Sequence[PageCitation], number: int) -> bool:
@@ -100,11 +128,11 @@ def _repeats(citations: Sequence[PageCitation], number: int) -> bool:
     return citations[number - 1].keys == citations[number].keys[:1]
 
 
-def _between(before: PageCitation) -> List[csl.Cite]:
+def _between(before: PageCitation) -> csl.Citation:
     """What stands between a citation and one that isn't to be `Ibid.`: two cites of its work that
     aren't shown, in its note."""
     hidden = csl.Cite(before.keys[0], hidden=True, note=before.note)
-    return [hidden, hidden]
+    return csl.Citation((hidden, hidden))
 
 
 def _places(citations: Sequence[PageCitation], is_note: bool) -> List[int]:

@@ -2,7 +2,7 @@
 from __future__ import annotations
 
 import json
-from typing import Any, Dict, List, Optional, Sequence, Union
+from typing import Any, Dict, List, Mapping, Optional, Sequence, Union
 
 from ._library import CiteTexts, library
 from .answer import Answer, answer_of
@@ -16,22 +16,27 @@ Json = Union[List[Any], Dict[str, Any], str, bytes]
 
 
 def texts_of(style: Union[str, bytes], items: Json, citations: Json, locales: Sequence[str],
-             locale: Optional[str], nocite: bool) -> CiteTexts:
+             locale: Optional[str], nocite: bool,
+             abbreviations: Optional[Mapping[str, Any]]) -> CiteTexts:
     """The texts of the call. Raises TextRefused where one can't be written as JSON."""
     options: Dict[str, Any] = {'nocite': True} if nocite else {}
     if locale is not None:
         options['locale'] = locale
+    if abbreviations is not None:
+        options['abbreviations'] = dict(abbreviations)
     return CiteTexts(style=_bytes_of(style), locales=_json_of('locales', list(locales)),
                      items=_json_of('items', items), citations=_json_of('citations', citations),
                      options=_json_of('options', options))
 
 
-def cite_texts(texts: CiteTexts) -> Answer:
-    """The answer to these texts, with what is odd in them."""
+def cite_texts(texts: CiteTexts, warns: bool = True) -> Answer:
+    """The answer to these texts, with what is odd in them unless that isn't asked for."""
     try:
         text = library().cite(texts)
     except DocumentRefused:
         raise _refusal(texts) from None
+    if not warns:
+        return answer_of(text.decode())
     _, warnings = findings_of(json.loads(library().find_cite_fault(texts)))
     return answer_of(text.decode(), warnings)
 

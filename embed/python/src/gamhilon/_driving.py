@@ -9,6 +9,7 @@ from typing import Any, Callable, Dict, List, Optional, Set, Tuple, Union
 from . import _deep_json
 from ._library import library
 from .answer import Answer, Tree, answer_of_value
+from .errors import LibraryFailed
 
 __all__ = ['Missing', 'State', 'Task', 'Writer', 'Writers', 'Written', 'drive_bytes',
            'render_with_all', 'result_of']
@@ -189,7 +190,7 @@ def drive_bytes(document: bytes) -> Union[Answer, Missing]:
 
 def render_with_all(document: Dict[str, Any], write_all: Writers) -> Answer:
     """Calls, and has the host write what is missing, until there is an answer. A driver that asks
-    for what was written ends it with a RuntimeError."""
+    for what was written ends it with LibraryFailed."""
     written: List[Any] = list(document.get('written', []))
     asked: Set[Task] = set()
     while True:
@@ -200,6 +201,6 @@ def render_with_all(document: Dict[str, Any], write_all: Writers) -> Answer:
         again = asked.intersection(result.tasks)
         if again or not result.tasks:
             first = sorted(map(repr, again))[:1]
-            raise RuntimeError(f'the driver asked again for what was written: {first}')
+            raise LibraryFailed(f'the driver asked again for what was written: {first}')
         asked.update(result.tasks)
         written += [made.data(task) for task, made in zip(result.tasks, write_all(result.tasks))]

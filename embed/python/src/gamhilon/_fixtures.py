@@ -7,6 +7,8 @@ import re
 from dataclasses import dataclass
 from typing import Any, Dict, List, Optional
 
+from .errors import GamhilonError
+
 __all__ = ['Fixture', 'FixtureFault', 'fixture_of', 'lines_of']
 
 _BEGIN = re.compile(r'^>>=+ *([A-Z][A-Z -]*?) *=+>>\s*$')
@@ -21,7 +23,7 @@ _TAG_OF_LAYOUT = re.compile(r'</?(?:div|a)\b[^>]*>')
 _TAG = re.compile(r'</?[a-zA-Z][^<>]*>')
 
 
-class FixtureFault(ValueError):
+class FixtureFault(GamhilonError, ValueError):
     """A file is no fixture, or one that asks for what isn't known; `is_known` is whether it is
     one."""
 

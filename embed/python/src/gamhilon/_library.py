@@ -12,8 +12,8 @@ from typing import Any, Callable, List, NamedTuple, Optional, Tuple
 
 from . import _faults
 from ._limits import Limits
-from .errors import (DocumentRefused, LibraryMissing, MacroRing, NumberOverflow, OutOfMemory,
-                     TooDeep, TooManyElements)
+from .errors import (DocumentRefused, LibraryFailed, LibraryMissing, MacroRing, NumberOverflow,
+                     OutOfMemory, TooDeep, TooManyElements)
 
 HERE = os.path.dirname(os.path.abspath(__file__))
 NAME = 'libgamhilon.so'
@@ -146,8 +146,8 @@ class Library:
             return NumberOverflow("the citation numbers don't fit 64 bits")
         if status == OutOfMemory.status:
             return OutOfMemory('memory was refused')
-        return RuntimeError(f'{NAME} ended a call with status {status}, '
-                            'which this package does not know')
+        return LibraryFailed(f'{NAME} ended a call with status {status}, '
+                             'which this package does not know')
 
     def _document_refused(self, document: bytes, fault: Any) -> Exception:
         """The refusal of a document, whose first fault the call `fault` tells."""

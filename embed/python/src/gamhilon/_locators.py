@@ -79,11 +79,12 @@ def split(suffix: str, words: Mapping[str, str] = ENGLISH) -> Tuple[Optional[Loc
     a word are pages."""
     if not isinstance(words, LocatorWords):
         return _Suffix(suffix, words).split()
-    if suffix not in words.split:
+    found = words.split.get(suffix)
+    if found is None:
         if len(words.split) >= _MOST_KEPT:
             words.split.clear()
-        words.split[suffix] = _Suffix(suffix, words).split()
-    return words.split[suffix]
+        found = words.split[suffix] = _Suffix(suffix, words).split()
+    return found
 
 
 class _Suffix:

@@ -6,7 +6,7 @@ import re
 from dataclasses import dataclass, field
 from typing import Dict, Iterator, List, NamedTuple, Optional, Tuple
 
-__all__ = ['Blocks', 'Heading', 'Paragraph', 'blocks_of']
+__all__ = ['Blocks', 'Heading', 'Paragraph', 'blocks_of', 'front_matter_in']
 
 _FRONT_MATTER = re.compile(
     r'\ufeff?(?:---[ \t]*\n.*?^(?:---|\.\.\.)[ \t]*$|\+\+\+[ \t]*\n.*?^\+\+\+[ \t]*$)',
@@ -29,9 +29,9 @@ _RAW_STARTS = (
 )
 _BLOCK_TAG = re.compile(
     r'</?(?:address|article|aside|base|blockquote|body|caption|center|col|colgroup|dd|details'
-    r'|dialog|dir|div|dl|dt|fieldset|figcaption|figure|footer|form|frame|frameset|h[1-6]|head|header|hr'
-    r'|html|iframe|legend|li|link|main|menu|menuitem|nav|noframes|ol|optgroup|option|p|param'
-    r'|section|source|summary|table|tbody|td|tfoot|th|thead|title|tr|track|ul)(?=[\s>/]|$)',
+    r'|dialog|dir|div|dl|dt|fieldset|figcaption|figure|footer|form|frame|frameset|h[1-6]|head'
+    r'|header|hr|html|iframe|legend|li|link|main|menu|menuitem|nav|noframes|ol|optgroup|option|p'
+    r'|param|section|source|summary|table|tbody|td|tfoot|th|thead|title|tr|track|ul)(?=[\s>/]|$)',
     re.IGNORECASE)
 _ANY_TAG = re.compile(r'(?:<[A-Za-z][\w-]*(?:\s+[^<>]*)?/?>|</[A-Za-z][\w-]*\s*>)[ \t]*$')
 _HAS_MARKDOWN = re.compile(r'\bmarkdown\b(?!-)')
@@ -84,6 +84,14 @@ class _Container(NamedTuple):
     note: Optional[str]
 
 
+def front_matter_in(text: str) -> str:
+    """The YAML at the beginning of a page, behind as many line feeds as lines are before it; empty
+    where there is none."""
+    front = _FRONT_MATTER.match(text.replace('\r\n', '\n'))
+    lines = front.group().lstrip('\ufeff').split('\n') if front else []
+    return '\n'.join(['', *lines[1:-1], '']) if lines and lines[0].startswith('-') else ''
+
+
 def blocks_of(text: str) -> Blocks:
     """The blocks of a page."""
     return _Reader(text).read()
@@ -125,6 +133,8 @@ class _Reader:
             at = end + 1
 
     def _line(self, start: int, end: int) -> _Line:
+        if self.text[start].isalpha():
+            return _Line(start, start, end, 0, False)
         quote = _QUOTE.match(self.text, start, end)
         inside = quote.end() if quote else start
         at = inside
@@ -185,21 +195,26 @@ class _Reader:
         if self.open is None and line.indent - inner >= 4:
             return
         said = self.text[line.at:line.end]
-        if self._takes_underline(line, said) or self._takes_block(line, said):
-            return
-        marker = _LIST.match(said)
-        if marker and self._begins_item(said) and not _RULE.match(said):
-            self._close()
-            at = line.at + marker.end()
-            spaces = len(self.text[at:line.end]) - len(self.text[at:line.end].lstrip(' \t'))
-            width = marker.end() + (spaces if spaces <= 4 else 1)
-            width = 4 if said[0] == ':' else width
-            self._enter(line, at + spaces, line.indent + width)
-            return
-        if self.open is None and _RULE.match(said):
-            return
+        # (a line that begins with two letters is text)
+        if not said[:2].isalpha():
+            if self._takes_underline(line, said) or self._takes_block(line, said) \
+                    or self._takes_item(line, said) or self.open is None and _RULE.match(said):
+                return
         begin = self.open[0] if self.open else line.at
         self.open = begin, line.end
+
+    def _takes_item(self, line: _Line, said: str) -> bool:
+        """Whether a line begins an item of a list."""
+        marker = _LIST.match(said)
+        if not marker or not self._begins_item(said) or _RULE.match(said):
+            return False
+        self._close()
+        at = line.at + marker.end()
+        spaces = len(self.text[at:line.end]) - len(self.text[at:line.end].lstrip(' \t'))
+        width = marker.end() + (spaces if spaces <= 4 else 1)
+        width = 4 if said[0] == ':' else width
+        self._enter(line, at + spaces, line.indent + width)
+        return True
 
     def _begins_block(self, line: _Line) -> bool:
         said = self.text[line.at:line.end]

@@ -14,11 +14,23 @@ WORD = re.compile(r'(?:[^\W_]|\.(?!\.))+')
 """A word, as pandoc reads one: behind it no `@` begins a citation."""
 
 _BEGINS_ADDRESS = r'(?:https?://|mailto:|www\.)'
-_MARK_OF_PAIRS = re.compile(rf'[\[\]\\`<${{]|(?<![^\W_]){_BEGINS_ADDRESS}')
+_PARTS_OF_ADDRESS = ('://', 'mailto:', 'www.')
+_MARK_OF_PAIRS = re.compile(r'[\[\]\\`<${]')
+_MARK_OR_ADDRESS = re.compile(rf'[\[\]\\`<${{]|(?<![^\W_]){_BEGINS_ADDRESS}')
 
-PLAIN = re.compile(rf'(?:(?!{_BEGINS_ADDRESS})[^\W_](?:[^\W_]|\.(?!\.))*'
-                   r'|[^\w\\`<{$!\[^*"\'.@])+')
-"""Words, and what stands between them, in which nothing else begins."""
+
+def _plain(others: str, more: str = '') -> Tuple[Pattern[str], Pattern[str]]:
+    """Words, and what stands between them but for some letters: in a text without addresses, which
+    is read by far faster, and in one that has some."""
+    without = re.compile(rf'(?:[^_{others}]+{more}|(?<=[^\W_])\.(?!\.))+')
+    beside = re.compile(rf'(?:(?!{_BEGINS_ADDRESS})[^\W_](?:[^\W_]|\.(?!\.))*{more}'
+                        rf'|[^\w{others}])+')
+    return without, beside
+
+
+_OTHERS = r'\\`<{$!\[^*"\'.@'
+_PLAIN = _plain(_OTHERS)
+_PLAIN_IN_CITE = _plain(_OTHERS + ';-', '|-(?!@)')
 
 _TAG = re.compile(
     r'<!--.*?-->|<\?.*?\?>|<![A-Z][^>]*>|<!\[CDATA\[.*?\]\]>'
@@ -42,7 +54,7 @@ _OPAQUE: Dict[str, Tuple[Pattern[str], ...]] = {
     '<': (_RAW, _TAG, _AUTOLINK), '{': (_TEMPLATE,), '$': (_DISPLAYED, _MATH),
     'h': (_ADDRESS,), 'm': (_ADDRESS,), 'w': (_ADDRESS,), '!': (_WIKI,), '[': (_WIKI,),
 }
-
+_TARGETS = {'(': _DESTINATION, '{': _ATTRIBUTES}
 
 
 class InlineReader:
@@ -50,6 +62,9 @@ class InlineReader:
 
     def __init__(self, text: str) -> None:
         self.text = text
+        has_address = any(part in text for part in _PARTS_OF_ADDRESS)
+        self.plain, self.plain_in_cite = _PLAIN[has_address], _PLAIN_IN_CITE[has_address]
+        self._mark = _MARK_OR_ADDRESS if has_address else _MARK_OF_PAIRS
         self._closing = self._pairs()
 
     def end_of_inline(self, at: int, end: int) -> int:
@@ -74,11 +89,14 @@ class InlineReader:
         """Where what Markdown doesn't read as text ends: an address, a tag, math, a template of a
         site generator, a link of a wiki. None where nothing of this kind begins."""
         letter = self.text[at]
-        patterns = _OPAQUE.get(letter, ())
-        if letter in 'hmw' and at and self.text[at - 1].isalnum():
+        patterns = _OPAQUE.get(letter)
+        if patterns is None or letter in 'hmw' and at and self.text[at - 1].isalnum():
             return None
-        found = (pattern.match(self.text, at, end) for pattern in patterns)
-        return next((match.end() for match in found if match), None)
+        for pattern in patterns:
+            match = pattern.match(self.text, at, end)
+            if match:
+                return match.end()
+        return None
 
     def closing_bracket(self, at: int, end: int) -> Optional[int]:
         """Where the bracket that opens at a place closes."""
@@ -88,11 +106,11 @@ class InlineReader:
     def end_of_target(self, at: int, end: int) -> Optional[int]:
         """Where that ends which makes brackets before it a link, or a span with attributes; None
         where nothing does."""
-        for pattern in (_DESTINATION, _ATTRIBUTES):
-            match = pattern.match(self.text, at, end)
-            if match:
-                return match.end()
-        if at < end and self.text.startswith('[', at) and not self.text.startswith('[^', at):
+        letter = self.text[at] if at < end else ''
+        if letter in _TARGETS:
+            match = _TARGETS[letter].match(self.text, at, end)
+            return match.end() if match else None
+        if letter == '[' and not self.text.startswith('[^', at):
             closing = self.closing_bracket(at, end)
             return None if closing is None else closing + 1
         return None
@@ -102,7 +120,7 @@ class InlineReader:
         found: Dict[int, int] = {}
         opened: List[int] = []
         end = len(self.text)
-        mark = _MARK_OF_PAIRS.search(self.text)
+        mark = self._mark.search(self.text)
         while mark is not None:
             at = mark.start()
             letter = self.text[at]
@@ -115,7 +133,7 @@ class InlineReader:
             else:
                 opaque = self.end_of_opaque(at, end) if letter in '<${hmw' else None
                 at = opaque or at + 1
-            mark = _MARK_OF_PAIRS.search(self.text, at)
+            mark = self._mark.search(self.text, at)
         return found
 
     def _bracketed(self, at: int, end: int) -> int:

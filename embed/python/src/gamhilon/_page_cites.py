@@ -2,15 +2,15 @@
 from __future__ import annotations
 
 import re
-from dataclasses import dataclass, field, replace
+from dataclasses import dataclass, field
 from typing import Callable, Dict, List, Mapping, Optional, Sequence, Set, Tuple, Union
 
 from . import csl
 from ._cited_style import PageCitation
 from ._page_writers import PageWriter
 from ._pandoc_inlines import CLOSING_QUOTES
-from ._pandoc_marks import (Part, closing, first_cite, opening, parts_of, text_of_pieces,
-                            without_empty)
+from ._pandoc_marks import (Part, closing, first_cite, opening, parts_of, shown_in,
+                            text_of_pieces, without_empty)
 from ._pandoc_names import names_in
 from ._writing import Piece
 from .answer import Tree
@@ -53,6 +53,8 @@ class CitationOfPage(PageCitation):
     note: Optional[int] = None
     is_in_note: bool = False
     keeps_names: bool = False
+    _asked: Dict[Tuple[bool, Optional[int]], csl.Citation] = field(
+        default_factory=dict, init=False, repr=False, compare=False)
 
     @property
     def keys(self) -> List[str]:
@@ -65,6 +67,13 @@ class CitationOfPage(PageCitation):
     def cites(self, keeps_authors: bool = False) -> List[csl.Cite]:
         return [self._cite(place, cited, keeps_authors) for place, cited in enumerate(self.cited)]
 
+    def asked(self, keeps_authors: bool = False) -> csl.Citation:
+        """The citation of a style, which is made once for each number of its note."""
+        key = keeps_authors and self.names_author, self.note
+        if key not in self._asked:
+            self._asked[key] = super().asked(keeps_authors)
+        return self._asked[key]
+
     def has_words(self, place: int) -> bool:
         """Whether words of the page stand around a cite."""
         return bool(self.cited[place].prefix or self.cited[place].suffix)
@@ -75,9 +84,10 @@ class CitationOfPage(PageCitation):
         is_named = place == 0 and self.names_author
         is_marked = bool(cited.prefix or cited.suffix) or is_named
         suffix = _punctuation(cited.suffix.text) + closing(place) if cited.suffix else ''
-        return replace(cited.cite, prefix=opening(place) if is_marked else '', suffix=suffix,
-                       suppress_author=cited.cite.suppress_author or is_named and not keeps_authors,
-                       note=self.note)
+        cite = cited.cite
+        return csl.Cite(cite.id, cite.locator, cite.label, opening(place) if is_marked else '',
+                        suffix, cite.suppress_author or is_named and not keeps_authors,
+                        note=self.note)
 
 
 def citation_of(found: TextCitation, known: Set[str]) -> CitationOfPage:
@@ -135,8 +145,8 @@ class CitationWriter:
         it."""
         made = Written([], [])
         parts = parts_of(tree)
-        shown = {part.place for part in parts if text_of_pieces(part.pieces).strip()}
-        for part in without_empty(parts, citation.has_words):
+        shown = shown_in(parts)
+        for part in without_empty(parts, shown, citation.has_words):
             made.rest += self._between(made.rest, part) if part.place is None \
                 else self._cite(citation, part)
         if with_authors is not None:
@@ -151,11 +161,13 @@ class CitationWriter:
 
     def text(self, runs: Sequence[Run]) -> str:
         """The text of runs, as it stands on the page."""
-        return ''.join(run if isinstance(run, str) else self.writer.inline(run) for run in runs)
+        return ''.join([run if isinstance(run, str) else self.writer.inline(run) for run in runs])
 
     def words(self, words: Words) -> str:
         """Words of a page, whose citations are written."""
         text, at = '', 0
+        if not words.citations:
+            return words.text
         for start, end, citation in words.citations:
             text += words.text[at:start] + self.texts.get(id(citation), words.text[start:end])
             at = end
@@ -163,8 +175,8 @@ class CitationWriter:
 
     def _between(self, before: Sequence[Run], part: Part) -> List[Run]:
         """What stands between cites or behind them, without a full stop behind another one."""
-        ends = text_of_runs(before[-1:]).endswith('.')
-        if ends and text_of_pieces(part.pieces).startswith('.'):
+        begins = text_of_pieces(part.pieces).startswith('.')
+        if begins and text_of_runs(before[-1:]).endswith('.'):
             return [_changed(part.pieces, 0, lambda text: text[1:])]
         return [part.pieces]
 
@@ -217,10 +229,13 @@ def _punctuation(suffix: str) -> str:
 def _settled(pieces: List[Piece], suffix: str) -> Tuple[List[Piece], str]:
     """A cite that the style wrote with the punctuation of the suffix, and the suffix: it stands in
     the cite where the style moved it into quotation marks, and else in the suffix."""
-    mark, text = _punctuation(suffix), text_of_pieces(pieces)
-    if mark and text.endswith(mark):
+    mark = _punctuation(suffix)
+    if not mark:
+        return pieces, suffix
+    text = text_of_pieces(pieces)
+    if text.endswith(mark):
         return _changed(pieces, -1, lambda last: last[:-1]), suffix
-    if mark and re.search(f'{re.escape(mark)}[{CLOSING_QUOTES}]+$', text):
+    if re.search(f'{re.escape(mark)}[{CLOSING_QUOTES}]+$', text):
         return pieces, suffix[1:]
     return pieces, suffix
 

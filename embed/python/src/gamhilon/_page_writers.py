@@ -3,6 +3,7 @@ from __future__ import annotations
 
 import html
 import re
+from functools import lru_cache
 from typing import Optional, Sequence
 
 from ._writing import Piece
@@ -49,6 +50,7 @@ class HtmlInMarkdown(PageWriter):
         return bibliography_to_html(bibliography)
 
 
+@lru_cache(maxsize=8192)
 def in_markdown(text: str) -> str:
     """HTML with numbers in place of the letters that Markdown reads as its own, but for tags."""
     if '<' not in text:

@@ -10,8 +10,8 @@ from ._cited_style import PageCitation
 from ._locators import ENGLISH, Locator
 from ._pandoc_inlines import (CLOSING_QUOTES, SPACE, Inlines, inlines_of_pieces, joined,
                               leading_text, linked, strong, text_of, words)
-from ._pandoc_marks import (Part, closing, first_cite, opening, parts_of, text_of_pieces,
-                            without_empty)
+from ._pandoc_marks import (Part, closing, first_cite, opening, parts_of, shown_in,
+                            text_of_pieces, without_empty)
 from ._pandoc_names import names_in
 from ._writing import Piece
 from .answer import Tree
@@ -124,8 +124,8 @@ def written(citation: Citation, tree: Tree, with_authors: Optional[Tree], links:
     stands in the text, the tree with it."""
     made = Written([], [], [])
     parts = parts_of(tree)
-    shown = {part.place for part in parts if text_of_pieces(part.pieces).strip()}
-    for part in without_empty(parts, citation.has_words):
+    shown = shown_in(parts)
+    for part in without_empty(parts, shown, citation.has_words):
         if part.place is None:
             made.rest += _between(made.rest, part)
         else:

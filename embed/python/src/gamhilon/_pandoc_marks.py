@@ -7,7 +7,7 @@ no letter, and no style changes it.
 from __future__ import annotations
 
 import re
-from typing import Any, Callable, List, NamedTuple, Optional, Sequence
+from typing import Any, Callable, List, NamedTuple, Optional, Sequence, Set
 
 from ._writing import Piece, pieces
 from .answer import Node, Tree
@@ -49,41 +49,44 @@ def parts_of(tree: Tree) -> List[Part]:
     """The parts of a citation, of which this is the tree: what is of a cite by its mark or by the
     tree, and what is of none."""
     found: List[Part] = []
-    entries: List[Optional[int]] = []
+    outer: List[Optional[int]] = []
+    inner: Optional[int] = None
     marked: Optional[int] = None
     for piece in pieces(tree):
-        if piece.kind == 'open':
-            entries.append(_entry_of(piece.node))
-        elif piece.kind == 'close' and entries.pop() == marked:
-            marked = None
-        if piece.kind != 'text':
-            is_of_cite = piece.kind in ('open', 'close') and _entry_of(piece.node) is not None
-            if not is_of_cite:
-                _add(found, _place(marked, entries), piece)
+        kind, node, _ = piece
+        if kind == 'text':
+            if node['text'].isascii():
+                if node['text']:
+                    _add(found, inner if marked is None else marked, piece)
+            else:
+                marked = _split(found, inner, marked, piece)
             continue
-        text = piece.node['text']
-        if text.isascii():
-            if text:
-                _add(found, _place(marked, entries), piece)
-            continue
-        for place, run in enumerate(_MARK.split(text)):
-            if place % 2 == 0:
-                if run:
-                    _add(found, _place(marked, entries),
-                         piece._replace(node={**piece.node, 'text': run}))
-                continue
-            number, is_closing = divmod(ord(run) - _FIRST, 2)
-            marked = None if is_closing else number
-            if not is_closing:
-                found.append(Part(number, []))
+        entry = _entry_of(node) if kind != 'markup' else None
+        if kind == 'open':
+            outer.append(inner)
+            inner = inner if entry is None else entry
+        elif kind == 'close':
+            inner = outer.pop()
+            marked = None if entry == marked else marked
+        if entry is None:
+            _add(found, inner if marked is None else marked, piece)
     return found
 
 
-def _place(marked: Optional[int], entries: List[Optional[int]]) -> Optional[int]:
-    """The cite of what stands here."""
-    if marked is not None:
-        return marked
-    return next((entry for entry in reversed(entries) if entry is not None), None)
+def _split(found: List[Part], inner: Optional[int], marked: Optional[int],
+           piece: Piece) -> Optional[int]:
+    """Adds a text, which may have marks. Gives the cite whose mark is open behind it."""
+    for place, run in enumerate(_MARK.split(piece.node['text'])):
+        if place % 2 == 0:
+            if run:
+                _add(found, inner if marked is None else marked,
+                     piece._replace(node={**piece.node, 'text': run}))
+            continue
+        number, is_closing = divmod(ord(run) - _FIRST, 2)
+        marked = None if is_closing else number
+        if not is_closing:
+            found.append(Part(number, []))
+    return marked
 
 
 def _add(found: List[Part], place: Optional[int], piece: Piece) -> None:
@@ -100,8 +103,7 @@ def _entry_of(node: Node) -> Optional[int]:
 
 def text_of_pieces(parts: List[Piece]) -> str:
     """The text of parts of a tree."""
-    return ''.join(piece.node.get('text', piece.node.get('markup', ''))
-                   for piece in parts if piece.kind in ('text', 'markup'))
+    return ''.join([node[kind] for kind, node, _ in parts if kind in ('text', 'markup')])
 
 
 def first_cite(parts: Sequence[Part]) -> List[Piece]:
@@ -109,11 +111,19 @@ def first_cite(parts: Sequence[Part]) -> List[Piece]:
     return [piece for part in parts if part.place == 0 for piece in part.pieces]
 
 
-def without_empty(parts: List[Part], has_words: Callable[[int], bool]) -> List[Part]:
-    """The parts without cites of which nothing is written and that have no words of the page around
-    them, by their places; nothing where no others are left."""
+def shown_in(parts: Sequence[Part]) -> Set[int]:
+    """The places of the cites of which something is written."""
+    return {place for place, content in parts
+            if place is not None and text_of_pieces(content).strip()}
+
+
+def without_empty(parts: List[Part], shown: Set[int],
+                  has_words: Callable[[int], bool]) -> List[Part]:
+    """The parts without cites that aren't shown and have no words of the page around them, by their
+    places; nothing where no others are left."""
+    if all(place is None or place in shown for place, _ in parts):
+        return parts
     cites = [at for at, part in enumerate(parts) if part.place is not None]
-    shown = {part.place for part in parts if text_of_pieces(part.pieces).strip()}
     kept = [at for at in cites if parts[at].place in shown or has_words(parts[at].place or 0)]
     if len(kept) == len(cites):
         return parts

@@ -9,6 +9,7 @@ from typing import Any, Callable, Dict, Iterator, List, Optional, Sequence
 from . import _pandoc_command, references
 from ._pandoc_inlines import rich_text_of, text_of
 from .csl_json import Loss
+from .errors import GamhilonError
 from .references.dates import csl_date
 
 Warn = Callable[[str], None]
@@ -20,7 +21,7 @@ _DATES = {
 _PARTS_OF_DATES = ('year', 'month', 'day')
 
 
-class FilterError(ValueError):
+class FilterError(GamhilonError, ValueError):
     """Why a page can't be worked on."""
 
 

@@ -78,7 +78,9 @@ def anchor(key: str) -> str:
 def formats(node: Node) -> List[str]:
     """What the text of a node has of `bold`, `italic`, `small-caps`, `underline`, and `sup` or
     `sub`, where it shows something."""
-    found = [node[key] for key, names in _FORMATS.items() if node.get(key) in names]
+    found = [node[key] for key in node if key in _FORMATS and node[key] in _FORMATS[key]]
+    if len(found) > 1:
+        found = [node[key] for key, names in _FORMATS.items() if node.get(key) in names]
     return found if found and single_spaced(node['text']).strip() else []
 
 
@@ -89,12 +91,12 @@ def pieces(tree: Union[Node, Tree], keys: Sequence[str] = ()) -> List[Piece]:
     left: List[Any] = [tree]
     while left:
         part = left.pop()
-        if isinstance(part, Piece):
-            found.append(part)
-        elif isinstance(part, list):
+        if isinstance(part, list):
             left.extend(reversed(part))
+        elif isinstance(part, Piece):
+            found.append(part)
         elif 'children' in part:
-            link = _link_of(part, keys)
+            link = _link_of(part, keys) if keys else None
             found.append(Piece('open', part, link))
             left.append(Piece('close', part, link))
             left.append(part['children'])

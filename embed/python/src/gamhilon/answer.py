@@ -90,8 +90,26 @@ def tree_of(part: Union[Citation, Node, Tree]) -> Tree:
     return part if isinstance(part, list) else [part]
 
 
+def shows_nothing(tree: Tree) -> bool:
+    """Whether a tree has no text but white space."""
+    left: List[Any] = [tree]
+    while left:
+        node = left.pop()
+        if isinstance(node, list):
+            left.extend(node)
+        elif 'children' in node:
+            left.append(node['children'])
+        elif node.get('text', node.get('markup', '')).strip():
+            return False
+    return True
+
+
 def plain(part: Union[Citation, Node, Tree]) -> str:
-    """The text of a citation, of a tree or of a node, without its formatting."""
+    """The text of a citation, of a tree or of a node, without its formatting.
+
+        >>> plain([{'text': 'Doe '}, {'children': [{'text': '1999', 'font_weight': 'bold'}]}])
+        'Doe 1999'
+    """
     written: List[str] = []
     left: List[Any] = [tree_of(part)]
     while left:

@@ -11,10 +11,10 @@ from __future__ import annotations
 
 import re
 from dataclasses import dataclass, replace
-from typing import Iterator, List, Mapping, NamedTuple, Optional, Sequence, Tuple, Union
+from typing import FrozenSet, Iterator, List, Mapping, NamedTuple, Optional, Sequence, Tuple, Union
 
 from . import _locators
-from ._markdown_inlines import MARKS, PLAIN, SPACES, WORD, InlineReader
+from ._markdown_inlines import MARKS, SPACES, WORD, InlineReader
 from .csl.cites import Cite, CiteSequence
 from .csl.locales import Locales
 from .errors import GamhilonError
@@ -92,9 +92,11 @@ def find_citations(text: str, *, language: Optional[str] = None,
     return list(CitationReader(text, words, labels_in(text)).citations(0, len(text)))
 
 
-def labels_in(text: str) -> Sequence[str]:
+def labels_in(text: str) -> FrozenSet[str]:
     """The labels to which links of a page may refer."""
-    return [_label(match.group(1)) for match in _DEFINITION.finditer(text)]
+    if ']:' not in text:
+        return frozenset()
+    return frozenset(_label(match.group(1)) for match in _DEFINITION.finditer(text))
 
 
 def _label(text: str) -> str:
@@ -121,9 +123,10 @@ class _Key(NamedTuple):
 class CitationReader(InlineReader):
     """Reads the citations of a text. `labels` are those to which links refer."""
 
-    def __init__(self, text: str, words: Mapping[str, str], labels: Sequence[str] = ()) -> None:
+    def __init__(self, text: str, words: Mapping[str, str],
+                 labels: FrozenSet[str] = frozenset()) -> None:
         super().__init__(text)
-        self.words, self.labels = words, frozenset(labels)
+        self.words, self.labels = words, labels
 
     # A text that is one citation
 
@@ -154,7 +157,7 @@ class CitationReader(InlineReader):
         """The citations and the marks of notes between two places of the text."""
         at, last_word = start, -1
         while at < end:
-            plain = PLAIN.match(self.text, at, end)
+            plain = self.plain.match(self.text, at, end)
             if plain is not None:
                 at = plain.end()
                 last_word = self._last_word(at)
@@ -225,7 +228,7 @@ class CitationReader(InlineReader):
     def _is_referred(self, opening: int, closing: int) -> bool:
         """Whether brackets are a link by a label, or a mark of a footnote."""
         inside = self.text[opening + 1:closing]
-        return inside.startswith('^') or _label(inside) in self.labels
+        return inside.startswith('^') or bool(self.labels) and _label(inside) in self.labels
 
     def in_brackets(self, at: int, end: int) -> Optional[TextCitation]:
         """A citation in brackets that begins at a place."""
@@ -280,13 +283,8 @@ class CitationReader(InlineReader):
         found: List[Cite] = []
         at = start
         while True:
-            begin, last_word, key = at, -1, None
-            while at < end and key is None and self.text[at] != ';':
-                if at != last_word:
-                    key = self._key(at, end)
-                if key is None:
-                    at = self.end_of_inline(at, end)
-                    last_word = at if WORD.match(self.text[at - 1]) else -1
+            begin = at
+            at, key = self._next_key(at, end)
             if key is None:
                 return found, (min(begin, end), 'a cite has no key')
             stop = self._end_of_suffix(key.end, end)
@@ -297,12 +295,31 @@ class CitationReader(InlineReader):
 
     def _end_of_suffix(self, at: int, end: int) -> int:
         """The semicolon that ends a suffix, or the end."""
-        last_word = -1
-        while at < end and self.text[at] != ';':
+        key: Optional[_Key] = None
+        while True:
+            at, key = self._next_key(at, end, key is not None)
+            if key is None:
+                return min(at, end)
+            at = key.end
+
+    def _next_key(self, at: int, end: int, follows_key: bool = False) -> Tuple[int, Optional[_Key]]:
+        """The place of the next key of a cite, and the key; or that of the semicolon or the end
+        that comes before."""
+        last_word = self._last_word(at) if follows_key else -1
+        while at < end:
+            plain = self.plain_in_cite.match(self.text, at, end)
+            if plain is not None:
+                at = plain.end()
+                last_word = self._last_word(at)
+                continue
+            if self.text[at] == ';':
+                break
             key = self._key(at, end) if at != last_word else None
-            at = key.end if key else self.end_of_inline(at, end)
-            last_word = at if WORD.match(self.text[at - 1]) else -1
-        return min(at, end)
+            if key is not None:
+                return at, key
+            at = self.end_of_inline(at, end)
+            last_word = self._last_word(at)
+        return at, None
 
     def _cite(self, key: _Key, prefix: str, suffix: str) -> Cite:
         locator, rest = _locators.split(_in_line(suffix), self.words)
@@ -315,7 +332,7 @@ class CitationReader(InlineReader):
         """The key that begins at a place, by `@` or by `-@`."""
         leaves_out = self.text.startswith('-@', at)
         at += leaves_out
-        if not self.text.startswith('@', at) or at >= end:
+        if at >= end or self.text[at] != '@':
             return None
         simple = _KEY.match(self.text, at + 1, end)
         if simple:
@@ -336,4 +353,6 @@ class CitationReader(InlineReader):
 
 def _in_line(text: str) -> str:
     """A text whose line feeds, with what follows them in a block quote, are spaces."""
+    if '\n' not in text:
+        return text
     return re.sub(r'[ \t]*\n[ \t]*(?:>[ \t]?)*', ' ', text)

@@ -80,8 +80,17 @@ def load(path: Union[str, 'os.PathLike[str]']) -> List[Any]:
 
 
 def entries(items: Any) -> Converted:
-    """The entries of a list of CSL-JSON items, or of what `references.load` gives. Raises
-    CslJsonError where it isn't one."""
+    """The entries of a list of CSL-JSON items, of what `references.load` gives, or of a file of
+    CSL-JSON, by its Path. Raises CslJsonError where it isn't one.
+
+        >>> converted = entries([{'id': 'doe99', 'title': 'On Order', 'page': '3'}])
+        >>> converted.entries
+        [{'key': 'doe99', 'title': 'On Order'}]
+        >>> [loss.field for loss in converted.losses]
+        ['page']
+    """
+    if isinstance(items, os.PathLike):
+        items = load(items)
     found: Dict[str, Entry] = {}
     losses: List[Loss] = []
     read = getattr(items, 'items', None)

@@ -6,14 +6,23 @@ from typing import List, Optional
 from .texts import TextFault, TextWarning
 
 __all__ = [
-    'DocumentRefused', 'GamhilonError', 'LibraryMissing', 'LimitExceeded', 'MacroRing',
-    'NumberOverflow', 'OutOfMemory', 'Refused', 'TextRefused', 'TooDeep', 'TooManyElements',
+    'DocumentRefused', 'GamhilonError', 'LibraryFailed', 'LibraryMissing', 'LimitExceeded',
+    'LimitsRefused', 'MacroRing', 'NumberOverflow', 'OutOfMemory', 'Refused', 'TextRefused',
+    'TooDeep', 'TooManyElements',
 ]
 
 
 class GamhilonError(Exception):
     """What the package raises by itself: each of its errors is one, and a ValueError or an OSError
-    and the like beside it."""
+    and the like beside it.
+
+        >>> from gamhilon import csl
+        >>> try:
+        ...     csl.about('apa.csl')
+        ... except GamhilonError as error:
+        ...     print(error)
+        there is no style 'apa.csl': looked for apa.csl
+    """
 
 
 class Refused(GamhilonError):
@@ -103,5 +112,13 @@ class TooManyElements(LimitExceeded):
     status = 8
 
 
+class LimitsRefused(GamhilonError, ValueError):
+    """A limit is no number that the library takes."""
+
+
 class LibraryMissing(GamhilonError, OSError):
     """The shared library isn't there, or can't be loaded."""
+
+
+class LibraryFailed(GamhilonError, RuntimeError):
+    """The shared library gave what this package doesn't know."""

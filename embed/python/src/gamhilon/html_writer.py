@@ -3,6 +3,7 @@ from __future__ import annotations
 
 import html
 import os
+from functools import lru_cache
 from typing import List, Optional, Sequence, Union
 
 from . import _addresses
@@ -28,6 +29,11 @@ def to_html(part: Union[Citation, Node, Tree], keys: Sequence[str] = (),
     stands without one. An element with a display is a `span` of class `csl-block`, `csl-indent`,
     `csl-left-margin` or `csl-right-inline`. `markup` makes HTML of a text in markup of its own,
     such as a formula, and shows its letters where it isn't given.
+
+        >>> to_html({'text': 'Doe & Roe', 'font_style': 'italic', 'font_weight': 'normal'})
+        '<i>Doe &amp; Roe</i>'
+        >>> to_html([{'meta': {'entry': 0}, 'children': [{'text': 'Doe 1999'}]}], ['doe99'])
+        '<a href="#ref-doe99">Doe 1999</a>'
     """
     return _html(pieces(tree_of(part), keys), markup, 'span')
 
@@ -80,18 +86,18 @@ def inline_html(parts: Sequence[Piece], markup: Escape = html.escape) -> str:
 
 def _html(parts: Sequence[Piece], markup: Escape, block: str) -> str:
     out: List[str] = []
-    for piece in parts:
-        display = piece.node.get('display')
-        if piece.kind == 'text':
-            out.append(_text(piece.node))
-        elif piece.kind == 'markup':
-            out.append(markup(piece.node['markup']))
-        elif piece.kind == 'open':
+    for kind, node, link in parts:
+        if kind == 'text':
+            out.append(_text(node))
+        elif kind == 'markup':
+            out.append(markup(node['markup']))
+        elif kind == 'open':
+            display = node.get('display')
             out.append(f'<{block} class="csl-{html.escape(display)}">' if display else '')
-            out.append(f'<a href="{html.escape(_target(piece.link))}">' if piece.link else '')
+            out.append(f'<a href="{html.escape(_target(link))}">' if link else '')
         else:
-            out.append('</a>' if piece.link else '')
-            out.append(f'</{block}>' if display else '')
+            out.append('</a>' if link else '')
+            out.append(f'</{block}>' if node.get('display') else '')
     return ''.join(out)
 
 
@@ -100,8 +106,14 @@ def _target(link: str) -> str:
     return link if '#' in link else f'#{link}'
 
 
+@lru_cache(maxsize=8192)
+def _escaped(text: str) -> str:
+    """The letters of a text, of which the same ones come again and again."""
+    return html.escape(single_spaced(text))
+
+
 def _text(node: Node) -> str:
-    text = html.escape(single_spaced(node['text']))
+    text = _escaped(node['text'])
     for name in reversed(formats(node)):
         opening, closing = _TAGS[name]
         text = opening + text + closing

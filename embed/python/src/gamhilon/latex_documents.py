@@ -12,7 +12,7 @@ import os
 from dataclasses import dataclass, replace
 from typing import Any, Dict, Iterator, List, Optional, Sequence, Tuple
 
-from . import _addresses, csl
+from . import _addresses, csl, references
 from ._cited_style import CitedStyle
 from ._latex_aux import Aux, CitationAsked, read_aux
 from ._latex_cites import Asking, DocumentWriter, Shown, StyleOfDocument, asking_of
@@ -54,13 +54,15 @@ def folder() -> str:
     return os.path.join(os.path.dirname(os.path.abspath(__file__)), 'tex')
 
 
-def write_bbl(path: str, *, locales: Optional[csl.Locales] = None) -> List[DocumentWarning]:
+def write_bbl(path: references.PathLike, *,
+              locales: Optional[csl.Locales] = None) -> List[DocumentWarning]:
     """Writes the .bbl file beside the .aux file of a document, and gives what is odd in it.
 
     Style, language and references are those that the document names. Raises OSError where a file
     can't be read or written, NoCitations where it isn't of a document with gamhilon.sty, and what
     `csl.render` and `references.load` raise.
     """
+    path = os.fspath(path)
     stem = path[:-len('.aux')] if path.endswith('.aux') else path
     text, warnings = bbl_of(f'{stem}.aux', locales=locales)
     with open(f'{stem}.bbl', 'w', encoding='utf-8', errors='surrogateescape') as file:
@@ -68,9 +70,10 @@ def write_bbl(path: str, *, locales: Optional[csl.Locales] = None) -> List[Docum
     return warnings
 
 
-def bbl_of(path: str, *, locales: Optional[csl.Locales] = None
+def bbl_of(path: references.PathLike, *, locales: Optional[csl.Locales] = None
            ) -> Tuple[str, List[DocumentWarning]]:
     """The .bbl file for an .aux file, and what is odd. Raises as `write_bbl` does."""
+    path = os.fspath(path)
     aux = read_aux(path)
     if not aux.is_of_package:
         raise NoCitations(f'{path}: it is not of a document that loads gamhilon.sty, or LaTeX '

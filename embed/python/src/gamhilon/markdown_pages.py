@@ -16,11 +16,11 @@ from __future__ import annotations
 import re
 from bisect import bisect_right
 from dataclasses import dataclass, field, replace
-from typing import Callable, Dict, Iterable, List, Mapping, NamedTuple, Optional, Sequence, Tuple
+from typing import (Callable, Dict, Iterable, List, Mapping, NamedTuple, Optional, Sequence, Tuple,
+                    Union)
 
 from . import csl
 from ._cited_style import CitedStyle
-from ._locators import words_of
 from ._markdown_blocks import Blocks, Paragraph, blocks_of
 from ._nearest import meant
 from ._page_cites import (CitationOfPage, CitationWriter, Written, capitalized, citation_of,
@@ -29,8 +29,9 @@ from ._page_writers import HtmlInMarkdown, PageWriter, heading
 from ._writing import anchor
 from .answer import Bibliography, Tree
 from .citation_text import CitationReader, NoteMark, TextCitation, labels_in
+from .csl.handed_in import read_of
 
-__all__ = ['CitedPage', 'PageWarning', 'Site', 'cite_page']
+__all__ = ['CitedPage', 'PageWarning', 'PreparedStyle', 'Site', 'cite_page']
 
 TITLE = 'References'
 """The heading below which a reference list stands, where no other is named."""
@@ -71,11 +72,24 @@ class _Edit(NamedTuple):
 
 
 @dataclass
+class _Answered:
+    """What comes of the citations of a page for which the style is asked: `trees` is what it writes
+    of each, and `said` what is odd in one of them, by its place among them. These, the addresses
+    to which the cites lead and the list of the page are all of which the page is drawn beside its
+    own text."""
+
+    trees: List[Tuple[Tree, Optional[Tree]]] = field(default_factory=list)
+    said: List[Tuple[int, str]] = field(default_factory=list)
+    targets: Dict[str, Optional[str]] = field(default_factory=dict)
+    listed: Optional[Bibliography] = None
+
+
+@dataclass
 class _Page:
     """A page, its blocks and its citations, in the order in which they are read. `own_notes` has
-    the numbers of the notes that it defines itself, each with the place of that; `trees` what the
-    style writes of each citation that it is asked for, and `said` what is odd in one of these, by
-    its place among them."""
+    the numbers of the notes that it defines itself, each with the place of that; `warnings` what is
+    odd in its text. `shown` is the page as it is drawn of what was `answered`: by `edits`, with the
+    citations that are `written`; and `lost` is what is odd in these."""
 
     name: str
     text: str
@@ -86,38 +100,84 @@ class _Page:
     citations: List[CitationOfPage] = field(default_factory=list)
     nested: List[CitationOfPage] = field(default_factory=list)
     warnings: List[PageWarning] = field(default_factory=list)
-    edits: List[_Edit] = field(default_factory=list)
-    trees: List[Tuple[Tree, Optional[Tree]]] = field(default_factory=list)
-    said: List[Tuple[int, str]] = field(default_factory=list)
     notes_after: int = 0
+    answered: _Answered = field(default_factory=_Answered)
+    is_drawn: bool = False
+    edits: List[_Edit] = field(default_factory=list)
+    lost: List[PageWarning] = field(default_factory=list)
     written: Dict[int, Written] = field(default_factory=dict)
+    shown: Optional[CitedPage] = None
 
     @property
     def asked(self) -> List[CitationOfPage]:
         """The citations that the style is asked for."""
         return [citation for citation in self.citations if citation.cited]
 
-    def warn(self, at: Optional[int], message: str) -> None:
-        line = None if at is None else self.text.count('\n', 0, at) + 1
-        column = None if at is None else at - (self.text.rfind('\n', 0, at) + 1) + 1
-        self.warnings.append(PageWarning(self.name, line, column, message))
+    def warning(self, at: int, message: str) -> PageWarning:
+        """Something that is odd at a place of the text."""
+        column = at - (self.text.rfind('\n', 0, at) + 1) + 1
+        return PageWarning(self.name, self.text.count('\n', 0, at) + 1, column, message)
+
+    def draw(self) -> None:
+        """Puts its edits into its text. These aren't kept, since a site has many."""
+        parts, at = [], 0
+        for edit in sorted(self.edits, key=lambda edit: (edit.start, edit.end)):
+            parts += [self.text[at:edit.start], edit.text]
+            at = edit.end
+        text = ''.join([*parts, self.text[at:]])
+        warnings = sorted([*self.warnings, *self.lost],
+                          key=lambda one: (one.line or 0, one.column or 0))
+        self.shown = CitedPage(text.replace('\n', '\r\n') if self.has_crlf else text, warnings)
+        self.edits, self.written, self.is_drawn = [], {}, True
+
+    def move_notes(self, by: int) -> None:
+        """Gives its notes later numbers, or earlier ones."""
+        self.notes_before += by
+        self.notes_after += by
+        self.own_notes = {number + by: place for number, place in self.own_notes.items()}
+        for citation in self.citations:
+            if citation.note is not None:
+                citation.note += by
 
 
-def cite_page(text: str, style: csl.StyleLike, references: csl.ReferencesLike, *,
-              locale: Optional[str] = None, locales: Optional[csl.Locales] = None,
-              nocite: Iterable[str] = (), links: bool = True, html: bool = False,
-              mark: Optional[str] = None, title: Optional[str] = None,
-              name: str = 'the page') -> CitedPage:
+class PreparedStyle(CitedStyle):
+    """A style with references, which are read once for any number of pages: as `style` of
+    `cite_page` and of `Site` it stands for `style`, `references`, `locale`, `locales` and
+    `abbreviations`, which are those of `csl.render`. Raises what that raises of them."""
+
+    def __init__(self, style: csl.StyleLike, references: csl.ReferencesLike,
+                 locale: Optional[str] = None, locales: Optional[csl.Locales] = None,
+                 abbreviations: Optional[csl.AbbreviationsLike] = None) -> None:
+        super().__init__(csl.style_of(style), locale, locales, abbreviations)
+        items, self.warnings = read_of(references)
+        self.take(items)
+
+
+def cite_page(text: str, style: Union[csl.StyleLike, PreparedStyle],
+              references: csl.ReferencesLike = (), *, locale: Optional[str] = None,
+              locales: Optional[csl.Locales] = None,
+              abbreviations: Optional[csl.AbbreviationsLike] = None, nocite: Iterable[str] = (),
+              links: bool = True, html: bool = False, mark: Optional[str] = None,
+              title: Optional[str] = None, name: str = 'the page') -> CitedPage:
     """A page of Markdown with its citations written, and its reference list.
 
-    `style`, `references`, `locale` and `locales` are those of `csl.render`. `nocite` are keys that
-    are listed without being cited, `*` for all. With `links` cites lead to the list. With `html`
-    what is written is HTML that any kind of Markdown leaves as it is; without, it is Markdown.
-    `mark` is a line in whose place the list stands, `title` its heading, which is added where the
-    page has none. `name` is how warnings name the page. Raises what `csl.render` raises.
+    `style`, `references`, `locale`, `locales` and `abbreviations` are those of `csl.render`; for
+    many pages a `PreparedStyle` in place of them takes less time. `nocite` are keys that are listed
+    without being cited, `*` for all. With `links` cites lead to the list. With `html` what is
+    written is HTML that any kind of Markdown leaves as it is; without, it is Markdown. `mark` is a
+    line in whose place the list stands, `title` its heading, which is added where the page has
+    none. `name` is how warnings name the page. Raises what `csl.render` raises.
+
+        >>> works = [{'id': 'doe99', 'type': 'book', 'title': 'On Order',
+        ...           'author': [{'family': 'Doe'}], 'issued': {'date-parts': [[1999]]}}]
+        >>> page = cite_page('As @doe99 [p. 4] says, and @nobody.', 'author-date', works)
+        >>> print(page.text.splitlines()[0])
+        As Doe ([1999, p. 4](#ref-doe99)) says, and @nobody.
+        >>> print(page.warnings[0])
+        the page:1:28: no entry has the key nobody
     """
-    site = Site(style, references, locale=locale, locales=locales, links=links, html=html,
-                mark=mark, title=title)
+    site = Site(style, references, locale=locale, locales=locales, abbreviations=abbreviations,
+                links=links, html=html, mark=mark, title=title)
     site.add(name, text)
     site.write(nocite)
     return site.page(name)
@@ -125,17 +185,20 @@ def cite_page(text: str, style: csl.StyleLike, references: csl.ReferencesLike, *
 
 class Site:
     """Pages that share one numbering: `add` each, in their order, `write` all of them by one call
-    of the library, and take each `page`. Each has the list of what is cited on it, or `list_page`
-    has the whole list; `address` then gives the address of that page from another one."""
+    of the library, and take each `page`; where texts of pages have changed since, `revise` these.
+    Each page has the list of what is cited on it, or `list_page` has the whole list; `address` then
+    gives the address of that page from another one."""
 
-    def __init__(self, style: csl.StyleLike, references: csl.ReferencesLike, *,
-                 locale: Optional[str] = None, locales: Optional[csl.Locales] = None,
-                 links: bool = True, html: bool = False, mark: Optional[str] = None,
-                 title: Optional[str] = None, list_page: Optional[str] = None,
+    def __init__(self, style: Union[csl.StyleLike, PreparedStyle],
+                 references: csl.ReferencesLike = (), *, locale: Optional[str] = None,
+                 locales: Optional[csl.Locales] = None,
+                 abbreviations: Optional[csl.AbbreviationsLike] = None, links: bool = True,
+                 html: bool = False, mark: Optional[str] = None, title: Optional[str] = None,
+                 list_page: Optional[str] = None,
                  address: Callable[[str], str] = lambda page: '') -> None:
-        self.style = CitedStyle(csl.style_of(style), locale, locales)
-        self.style.take(csl.items_of(references))
-        self.words = words_of(locale, locales)
+        self.style = style if isinstance(style, PreparedStyle) \
+            else PreparedStyle(style, references, locale, locales, abbreviations)
+        self.words = self.style.words
         self.writer = HtmlInMarkdown() if html else PageWriter()
         self.links, self.mark, self.title = links, mark, title
         self.list_page, self.address = list_page, address
@@ -143,7 +206,9 @@ class Site:
         self.warnings: List[PageWarning] = []
         self.bibliography: Optional[Bibliography] = None
         self._notes = 0
+        self._nocite: Tuple[str, ...] = ()
         self._addresses: Dict[str, Dict[str, str]] = {}
+        self._places: Dict[str, int] = {}
 
     def add(self, name: str, text: str) -> None:
         """Adds a page."""
@@ -157,19 +222,32 @@ class Site:
         page.notes_after = self._notes
         return page
 
-    def rewrite(self, name: str, text: str) -> bool:
-        """Writes a page anew whose text has changed since all were written. Gives False, and leaves
-        all as it is, where its citations have changed too, so that others may be others."""
+    def revise(self, texts: Mapping[str, str]) -> List[str]:
+        """Takes pages, by their names, whose texts have changed since all were written, and gives
+        the names of the pages that are drawn anew: these, and those of whose citations, numbers or
+        lists something else is written now. The library is called only where other citations are
+        asked for than before."""
+        asks_anew = [self._replace(name, text) for name, text in texts.items()]
+        if any(asks_anew):
+            self._ask()
+        drawn = [page for page in self.pages.values() if not page.is_drawn]
+        for page in drawn:
+            self._draw(page)
+        return [page.name for page in drawn]
+
+    def _replace(self, name: str, text: str) -> bool:
+        """Takes the text of a page that has changed. Whether other citations are asked for now."""
         before, notes = self.pages[name], self._notes
         self._notes = before.notes_before
         page = self._read(name, text)
-        self._notes = notes
-        if page.notes_after != before.notes_after or not _asks_alike(before, page):
-            return False
-        page.trees, page.said = before.trees, before.said
-        self.pages[name] = page
-        self._put(page)
-        return True
+        moved = page.notes_after - before.notes_after
+        self.pages[name], self._notes = page, notes + moved
+        if moved:
+            names = list(self.pages)
+            for later in names[names.index(name) + 1:]:
+                self.pages[later].move_notes(moved)
+        page.answered = before.answered
+        return bool(moved) and self.style.is_note or not _asks_alike(before, page)
 
     def next_note(self) -> int:
         """The number of the next note."""
@@ -178,42 +256,56 @@ class Site:
 
     def write(self, nocite: Iterable[str] = ()) -> None:
         """Writes the citations of all pages."""
-        asked = [(page, citation) for page in self.pages.values() for citation in page.asked]
-        answer = self.style.answer([citation for _, citation in asked], self._nocite(nocite))
-        self.bibliography = answer.bibliography
-        self._addresses = {}
-        for (page, _), tree, whole in zip(asked, answer.trees, answer.with_authors):
-            page.trees.append((tree, whole))
-        self._warn(asked, answer.warnings)
+        self._nocite = tuple(nocite)
+        self._ask()
         for page in self.pages.values():
-            self._put(page)
+            self._draw(page)
 
-    def _put(self, page: _Page) -> None:
+    def _ask(self) -> None:
+        """Asks the style for the citations of all pages. Those of which it writes something else
+        than before are to be drawn."""
+        asked = [(page, citation) for page in self.pages.values() for citation in page.asked]
+        self.warnings = [PageWarning(warned.place, None, None, warned.message)
+                         for warned in self.style.warnings]
+        answer = self.style.answer([citation for _, citation in asked], self._listed_anyway())
+        self.bibliography = answer.bibliography
+        self._addresses, self._places = {}, {}
+        answered = {name: _Answered() for name in self.pages}
+        for (page, _), tree, whole in zip(asked, answer.trees, answer.with_authors):
+            answered[page.name].trees.append((tree, whole))
+        self._warn(asked, answer.warnings, answered)
+        for page in self.pages.values():
+            made, targets = answered[page.name], self._targets(page.name)
+            made.targets = {key: targets.get(key) for citation in page.citations
+                            for key in citation.keys}
+            made.listed = self.listed(page.name)
+            page.is_drawn = page.is_drawn and page.answered == made
+            page.answered = made
+
+    def _draw(self, page: _Page) -> None:
         """Puts into a page what is written of its citations, and its list."""
         writer = CitationWriter(self.writer, self._targets(page.name))
         asked, nested = page.asked, {id(citation) for citation in page.nested}
+        page.lost = []
         # (those in the words of another one follow it)
-        for citation, (tree, whole) in reversed(list(zip(asked, page.trees))):
+        for citation, (tree, whole) in reversed(list(zip(asked, page.answered.trees))):
             written = writer.written(citation, tree, whole)
             page.written[id(citation)] = written
             if id(citation) in nested:
                 writer.texts[id(citation)] = _in_line(writer, citation, written, True)
-            for lost in written.lost:
-                page.warn(citation.start, lost)
-        for place, message in page.said:
-            page.warn(asked[place].start, message)
+            page.lost += [page.warning(citation.start, lost) for lost in written.lost]
+        page.lost += [page.warning(asked[place].start, message)
+                      for place, message in page.answered.said]
         _Placer(self, page, writer).place()
+        page.draw()
 
     def page(self, name: str) -> CitedPage:
         """A page that is written."""
         page = self.pages[name]
-        text, at = '', 0
-        for edit in sorted(page.edits, key=lambda edit: (edit.start, edit.end)):
-            text, at = text + page.text[at:edit.start] + edit.text, edit.end
-        text += page.text[at:]
-        warnings = sorted(page.warnings, key=lambda one: (one.line or 0, one.column or 0))
-        return CitedPage(text.replace('\n', '\r\n') if page.has_crlf else text,
-                         [*warnings, *(self.warnings if len(self.pages) == 1 else [])])
+        shown = page.shown or CitedPage(page.text, page.warnings)
+        if len(self.pages) > 1 or not self.warnings:
+            return shown
+        return replace(shown, warnings=[*shown.warnings, *self.warnings])
 
     def listed(self, page: str) -> Optional[Bibliography]:
         """The reference list of a page: of what is cited on it, or of all pages; None where it has
@@ -222,8 +314,11 @@ class Site:
             return None
         items = self.bibliography.items
         if self.list_page is None and len(self.pages) > 1:
+            if not self._places:
+                self._places = {item.key: place for place, item in enumerate(items)}
             keys = {key for citation in self.pages[page].citations for key in citation.keys}
-            items = [item for item in items if item.key in keys]
+            items = [items[place] for place in sorted(self._places[key] for key in keys
+                                                      if key in self._places)]
         return replace(self.bibliography, items=items) if items else None
 
     def _targets(self, page: str) -> Dict[str, str]:
@@ -235,8 +330,9 @@ class Site:
                                         for item in self.bibliography.items}
         return self._addresses[address]
 
-    def _nocite(self, keys: Iterable[str]) -> List[str]:
-        asked = list(dict.fromkeys(key.lstrip('@') for key in keys))
+    def _listed_anyway(self) -> List[str]:
+        """The keys that are listed without being cited."""
+        asked = list(dict.fromkeys(key.lstrip('@') for key in self._nocite))
         if '*' in asked:
             return list(self.style.items)
         for key in asked:
@@ -249,7 +345,9 @@ class Site:
         return f'no entry has the key {key}{meant(key, self.style.keys)}'
 
     def _warn(self, asked: Sequence[Tuple[_Page, CitationOfPage]],
-              warnings: Sequence[csl.Warned]) -> None:
+              warnings: Sequence[csl.Warned], answered: Mapping[str, _Answered]) -> None:
+        firsts = {page.name: place for place, (page, _) in reversed(list(enumerate(asked)))} \
+            if warnings else {}
         for warned in warnings:
             if warned.citation is None:
                 self.warnings.append(PageWarning(warned.place, None, None, warned.message))
@@ -258,15 +356,15 @@ class Site:
             is_whole = not citation.names_author and not any(
                 cited.cite.suppress_author for cited in citation.cited)
             if is_whole:
-                first = next(place for place, (other, _) in enumerate(asked) if other is page)
-                page.said.append((warned.citation - first, warned.message))
+                place = warned.citation - firsts[page.name]
+                answered[page.name].said.append((place, warned.message))
 
 
 def _asks_alike(one: _Page, other: _Page) -> bool:
     """Whether two pages ask the style for the same citations, in the same order."""
     asked, others = one.asked, other.asked
     return len(asked) == len(others) and all(
-        (before.cites(), before.names_author) == (after.cites(), after.names_author)
+        (before.asked(), before.names_author) == (after.asked(), after.names_author)
         for before, after in zip(asked, others))
 
 
@@ -299,6 +397,8 @@ class _Collector:
 
     def _paragraph(self, paragraph: Paragraph, note: Optional[int]) -> None:
         text = self.page.text[paragraph.start:paragraph.end]
+        if '@' not in text and '[^' not in text and '^[' not in text:
+            return
         inline, inline_end = note, -1
         for part in CitationReader(text, self.site.words, self.labels).parts(0, len(text)):
             if part.start >= inline_end:
@@ -315,7 +415,7 @@ class _Collector:
         made = citation_of(found, self.site.style.keys)
         made.start, made.end = found.start + offset, found.end + offset
         for key in made.missing:
-            self.page.warn(made.start, self.site.no_entry(key))
+            self.page.warnings.append(self.page.warning(made.start, self.site.no_entry(key)))
         self._add(made, note)
         self.page.citations.append(made)
         self._nested(made)
@@ -331,14 +431,16 @@ class _Collector:
         `@b` in the words behind it."""
         for cited in outer.cited:
             for words in (cited.prefix, cited.suffix):
+                if '@' not in words.text:
+                    continue
                 reader = CitationReader(words.text, self.site.words)
                 for found in reader.citations(0, len(words.text)):
                     inner = citation_of(found, self.site.style.keys)
                     if not inner.cited:
                         continue
-                    self.page.warn(outer.start, f'@{inner.keys[0]} stands in the words around '
-                                   f'@{cited.cite.id}, so that it is no cite beside it: a '
-                                   'semicolon between them makes it one')
+                    said = (f'@{inner.keys[0]} stands in the words around @{cited.cite.id}, so '
+                            'that it is no cite beside it: a semicolon between them makes it one')
+                    self.page.warnings.append(self.page.warning(outer.start, said))
                     self._add(inner, outer.note)
                     inner.is_in_note = inner.keeps_names = outer.note is not None
                     words.citations.append((found.start, found.end, inner))
@@ -370,12 +472,16 @@ class _Placer:
             if self.page.text[citation.start] == '[':
                 self._edit(citation.start, citation.end, unknown(citation))
         elif citation.note is None or citation.is_in_note:
-            behind = self.page.text[citation.end:self._paragraph(citation.start).end]
-            has_more = bool(behind.strip(' \t\n]'))
-            text = _in_line(self.writer, citation, written, has_more)
+            text = _in_line(self.writer, citation, written,
+                            citation.note is not None and self._has_more(citation))
             self._edit(citation.start, citation.end, text)
         else:
             self._put_note(citation, written)
+
+    def _has_more(self, citation: CitationOfPage) -> bool:
+        """Whether more of its paragraph follows a citation."""
+        behind = self.page.text[citation.end:self._paragraph(citation.start).end]
+        return bool(behind.strip(' \t\n]'))
 
     def _paragraph(self, at: int) -> Paragraph:
         """The paragraph of a place."""
@@ -423,7 +529,7 @@ class _Placer:
     # The reference list
 
     def _list(self) -> None:
-        bibliography = self.site.listed(self.page.name)
+        bibliography = self.page.answered.listed
         text = self.page.text
         written = self.site.writer.reference_list(bibliography) if bibliography else ''
         place = self._place()

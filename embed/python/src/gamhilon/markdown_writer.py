@@ -34,6 +34,9 @@ def to_markdown(part: Union[Citation, Node, Tree], keys: Sequence[str] = (),
     subscripts are tags of HTML, too. Elements with a display stand in the line. `markup`
     makes Markdown of a text in markup of its own, such as a formula, and shows its letters where it
     isn't given.
+
+        >>> to_markdown({'text': 'On *Order*', 'font_style': 'italic', 'font_weight': 'normal'})
+        '*On \\\\*Order\\\\**'
     """
     return _markdown(pieces(tree_of(part), keys), markup)
 

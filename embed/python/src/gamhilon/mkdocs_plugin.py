@@ -24,8 +24,8 @@ from .csl.locales import files_for
 from .csl.style import load
 from .errors import GamhilonError
 from .html_writer import style_sheet
-from .markdown_pages import Site
-from .python_markdown import MARK, items_in, listed
+from .markdown_pages import CitedPage, Site
+from .python_markdown import MARK, items_in, listed, stamp
 
 __all__ = ['CitationPlugin']
 
@@ -42,12 +42,24 @@ PluginError: Any = importlib.import_module('mkdocs.exceptions').PluginError
 get_relative_url: Any = importlib.import_module('mkdocs.utils').get_relative_url
 
 
+class _Shown(NamedTuple):
+    """A page as it is given to MkDocs, and what it was made of: the page with its citations, and
+    what MkDocs had of it."""
+
+    cited: CitedPage
+    before: str
+    text: str
+
+
 class _Kept(NamedTuple):
-    """A site as it was written, what it was made of, and its files of pages."""
+    """A site as it was written, what it was made of, its files of pages, its pages as they were
+    given to MkDocs, and what is odd in its references."""
 
     made_of: Any
     site: Site
     seen: Seen
+    shown: Dict[str, _Shown]
+    odd: List[str]
 
 
 _kept: Dict[str, _Kept] = {}
@@ -73,6 +85,8 @@ class CitationPlugin(BasePlugin):  # type: ignore[misc]
     def __init__(self) -> None:
         self.folder = ''
         self.site: Optional[Site] = None
+        self.shown: Dict[str, _Shown] = {}
+        self.odd: List[str] = []
 
     def on_config(self, config: Any) -> Any:
         """Finds the files beside `mkdocs.yml`, and adds what pages need."""
@@ -106,21 +120,30 @@ class CitationPlugin(BasePlugin):  # type: ignore[misc]
         finally:
             if collects:
                 gc.enable()
-        for warning in self.site.warnings:
+        for warning in [*self.odd, *self.site.warnings]:
             logger.warning('%s', warning)
         return nav
 
     def on_page_markdown(self, markdown: str, page: Any, config: Any, files: Any) -> str:
         """A page with its citations written."""
-        if self.site is None or page.file.src_uri not in self.site.pages:
+        name = page.file.src_uri
+        if self.site is None or name not in self.site.pages:
             return markdown
-        cited = self.site.page(page.file.src_uri)
+        cited = self.site.page(name)
         for warning in cited.warnings:
             logger.warning('%s', warning)
-        before = self.site.pages[page.file.src_uri].text
+        shown = self.shown.get(name)
+        if shown is None or shown.cited is not cited or shown.before != markdown:
+            text = self._shown(name, markdown, cited)
+            self.shown[name] = shown = _Shown(cited, markdown, text)
+        return shown.text
+
+    def _shown(self, name: str, markdown: str, cited: CitedPage) -> str:
+        """A page, without its front matter, with its citations."""
+        before = self.site.pages[name].text if self.site else ''
         if not before.rstrip().endswith(markdown.replace('\r\n', '\n').rstrip()):
-            raise PluginError(f'gamhilon: {page.file.src_uri}: another plugin has changed the page '
-                              'before: gamhilon has to be the first of the plugins')
+            raise PluginError(f'gamhilon: {name}: another plugin has changed the page before: '
+                              'gamhilon has to be the first of the plugins')
         kept = len(before) - len(before.rstrip()) + len(markdown.replace('\r\n', '\n').rstrip())
         return _without_front(cited.text.replace('\r\n', '\n'), before[:len(before) - kept])
 
@@ -136,18 +159,20 @@ class CitationPlugin(BasePlugin):  # type: ignore[misc]
         """The site of this configuration: as it was written before but for pages that are edited,
         where nothing else has changed."""
         made_of = self._made_of(pages)
-        seen = {page: _stamp(file.abs_src_path) for page, file in pages.items()}
+        seen = {page: stamp(file.abs_src_path) for page, file in pages.items()}
         kept = _kept.pop(name, None)
         if kept is not None and kept.made_of == made_of:
-            edited = [page for page in pages if kept.seen[page] != seen[page]]
-            if all(kept.site.rewrite(page, _text_of(pages[page])) for page in edited):
-                _kept[name] = kept._replace(seen=seen)
-                return kept.site
+            kept.site.revise({page: _text_of(file) for page, file in pages.items()
+                              if kept.seen[page] != seen[page]})
+            _kept[name] = kept._replace(seen=seen)
+            self.shown, self.odd = kept.shown, kept.odd
+            return kept.site
         site = self._site(pages, list_page)
         for page, file in pages.items():
             site.add(page, _text_of(file))
         site.write(listed(self.config['nocite']))
-        _kept[name] = _Kept(made_of, site, seen)
+        self.shown = {}
+        _kept[name] = _Kept(made_of, site, seen, self.shown, self.odd)
         return site
 
     def _made_of(self, pages: Dict[str, Any]) -> Any:
@@ -156,7 +181,7 @@ class CitationPlugin(BasePlugin):  # type: ignore[misc]
         locales = self.config['locales'] or None
         return (style, files_for(self.config['locale'] or style.language or 'en-US', locales),
                 dict(self.config), [(page, file.url) for page, file in pages.items()],
-                [(path, _stamp(path)) for path in self._paths()])
+                [(path, stamp(path)) for path in self._paths()])
 
     def _site(self, pages: Dict[str, Any], list_page: Optional[str]) -> Site:
         urls = {name: file.url for name, file in pages.items()}
@@ -164,7 +189,9 @@ class CitationPlugin(BasePlugin):  # type: ignore[misc]
         def address(page: str) -> str:
             return str(get_relative_url(urls[list_page or page], urls[page]))
 
-        return Site(self._style(), items_in(self._paths()), locale=self.config['locale'] or None,
+        self.odd = []
+        items = items_in(self._paths(), self.odd.append)
+        return Site(self._style(), items, locale=self.config['locale'] or None,
                     locales=self.config['locales'] or None, links=self.config['links'], html=True,
                     mark=self.config['mark'], title=self.config['title'] or None,
                     list_page=list_page, address=address)
@@ -178,15 +205,6 @@ class CitationPlugin(BasePlugin):  # type: ignore[misc]
         style = str(self.config['style'])
         path = os.path.join(self.folder, style)
         return path if os.path.isfile(path) else style
-
-
-def _stamp(path: str) -> Tuple[int, int]:
-    """The time and the size of a file; zeros where it can't be told."""
-    try:
-        found = os.stat(path)
-    except OSError:
-        return 0, 0
-    return found.st_mtime_ns, found.st_size
 
 
 def _text_of(file: Any) -> str:

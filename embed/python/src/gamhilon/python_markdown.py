@@ -14,10 +14,13 @@ from __future__ import annotations
 
 import importlib
 import logging
-from typing import Any, Dict, List
+import os
+from typing import Any, Callable, Dict, List, Tuple
 
 from . import csl, references
-from .markdown_pages import cite_page
+from ._references_of_files import items_of_files
+from .csl.style import load
+from .markdown_pages import PreparedStyle, cite_page
 
 __all__ = ['CitationExtension', 'MARK', 'items_in', 'makeExtension']
 
@@ -26,6 +29,8 @@ MARK = '[REFERENCES]'
 
 # (behind what puts white space in order, and before what reads metadata, code and HTML)
 _PRIORITY = 29
+
+_MOST_KEPT = 8
 
 logger = logging.getLogger('gamhilon')
 
@@ -53,24 +58,22 @@ class CitationExtension(Extension):  # type: ignore[misc]
         """Has a page's citations written before anything else of it is read. Raises what
         `csl.about` and `references.load` raise."""
         config = self.getConfigs()
-        items = items_in(config['bibliography'])
-        if csl.about(config['style']).is_note:
+        style = _prepared(config)
+        if style.is_note:
             md.registerExtensions(['footnotes'], {})
-        md.preprocessors.register(_Citations(md, config, items), 'gamhilon', _PRIORITY)
+        md.preprocessors.register(_Citations(md, config, style), 'gamhilon', _PRIORITY)
 
 
 class _Citations(Preprocessor):  # type: ignore[misc]
     """Writes the citations of a page."""
 
-    def __init__(self, md: Any, config: Dict[str, Any], items: List[references.Item]) -> None:
+    def __init__(self, md: Any, config: Dict[str, Any], style: PreparedStyle) -> None:
         super().__init__(md)
-        self.options, self.items = config, items
+        self.options, self.style = config, style
 
     def run(self, lines: List[str]) -> List[str]:
         """The lines of a page with its citations written."""
-        page = cite_page('\n'.join(lines), self.options['style'], self.items, html=True,
-                         locale=self.options['locale'] or None,
-                         locales=self.options['locales'] or None, links=self.options['links'],
+        page = cite_page('\n'.join(lines), self.style, html=True, links=self.options['links'],
                          nocite=listed(self.options['nocite']), mark=self.options['mark'],
                          title=self.options['title'] or None)
         for warning in page.warnings:
@@ -78,18 +81,44 @@ class _Citations(Preprocessor):  # type: ignore[misc]
         return page.text.split('\n')
 
 
-def items_in(paths: Any) -> List[references.Item]:
-    """The references of files. The first of a key counts. Raises ReferencesError and OSError."""
-    found: Dict[str, references.Item] = {}
-    for path in listed(paths):
-        for item in references.load(path).items:
-            found.setdefault(str(item['id']), item)
-    return list(found.values())
+_kept: Dict[Any, PreparedStyle] = {}
+# (Pelican makes the extension anew for each page)
+
+
+def _prepared(config: Dict[str, Any]) -> PreparedStyle:
+    """The style of a configuration with its references, which are read anew where a file has
+    changed."""
+    paths, style = listed(config['bibliography']), csl.style_of(config['style'])
+    locale, locales = config['locale'] or None, config['locales'] or None
+    key = load(style), locale, str(locales), tuple((path, stamp(path)) for path in paths)
+    found = _kept.get(key)
+    if found is None:
+        if len(_kept) >= _MOST_KEPT:
+            _kept.clear()
+        items = items_in(paths, logger.warning)
+        found = _kept[key] = PreparedStyle(style, items, locale, locales)
+    return found
+
+
+def stamp(path: str) -> Tuple[int, int]:
+    """The time and the size of a file; zeros where it isn't there."""
+    try:
+        found = os.stat(path)
+    except OSError:
+        return 0, 0
+    return found.st_mtime_ns, found.st_size
+
+
+def items_in(paths: Any, warn: Callable[[str], None]) -> List[references.Item]:
+    """The references of files. The first of a key counts. Warns of what is odd in them. Raises
+    ReferencesError and OSError."""
+    return items_of_files(listed(paths), None, lambda name, problem: warn(f'{name}: {problem}'))
 
 
 def listed(value: Any) -> List[str]:
-    """An option that is a text or a list of texts, as a list."""
-    return [value] if isinstance(value, str) else [str(member) for member in value or []]
+    """An option that is a text or a path, or a list of them, as a list."""
+    alone = isinstance(value, (str, os.PathLike))
+    return [str(member) for member in ([value] if alone else value or [])]
 
 
 def makeExtension(**settings: Any) -> CitationExtension:

@@ -11,6 +11,8 @@ from __future__ import annotations
 import os
 from typing import List
 
+from .csl.errors import StyleMissing
+
 __all__ = ['names', 'path', 'text']
 
 _HERE = os.path.dirname(os.path.abspath(__file__))
@@ -20,20 +22,24 @@ _SUFFIX = '.csl'
 
 
 def names() -> List[str]:
-    """The names of the styles: author-date, labels, notes, numeric."""
+    """The names of the styles.
+
+        >>> names()
+        ['author-date', 'labels', 'notes', 'numeric']
+    """
     return sorted(name[:-len(_SUFFIX)] for name in os.listdir(_folder())
                   if name.endswith(_SUFFIX))
 
 
 def path(name: str) -> str:
-    """The path of the style of this name. Raises ValueError where there is no such style."""
+    """The path of the style of this name. Raises csl.StyleMissing where there is no such style."""
     if name not in names():
-        raise ValueError(f'there is no style {name!r}: the styles are {", ".join(names())}')
+        raise StyleMissing(f'there is no style {name!r}: the styles are {", ".join(names())}')
     return os.path.join(_folder(), name + _SUFFIX)
 
 
 def text(name: str) -> str:
-    """The text of the style of this name. Raises ValueError where there is no such style."""
+    """The text of the style of this name. Raises csl.StyleMissing where there is no such style."""
     with open(path(name), encoding='utf-8') as file:
         return file.read()
 

@@ -17,8 +17,10 @@ from __future__ import annotations
 
 from typing import List
 
+from .abbreviations import AbbreviationsLike
 from .cites import LABELS, Citation, CitationLike, Cite, CiteLike
-from .errors import CitationRefused, EntriesRefused, StyleMissing, StyleRefused
+from .errors import (AbbreviationsRefused, CitationRefused, EntriesRefused, StyleMissing,
+                     StyleRefused)
 from .handed_in import ReferencesLike, StyleLike, items_of, style_of
 from .locales import Locales
 from .rendering import (about, check_entries, check_file, check_locale, check_references,
@@ -28,11 +30,12 @@ from .style import About, find, is_locale, names, variables_of
 from .warned import Warned
 
 __all__ = [
-    'About', 'Citation', 'CitationLike', 'CitationRefused', 'Cite', 'CiteLike', 'EntriesRefused',
-    'LABELS', 'Locales', 'ReferencesLike', 'Rendered', 'RenderedBibliography', 'RenderedCitation',
-    'StyleLike', 'StyleMissing', 'StyleRefused', 'Warned', 'about', 'check_entries', 'check_file',
-    'check_locale', 'check_references', 'check_style', 'find', 'is_locale', 'items_of', 'names',
-    'render', 'style_of', 'variables_of',
+    'AbbreviationsLike', 'AbbreviationsRefused', 'About', 'Citation', 'CitationLike',
+    'CitationRefused', 'Cite', 'CiteLike', 'EntriesRefused', 'LABELS', 'Locales', 'ReferencesLike',
+    'Rendered', 'RenderedBibliography', 'RenderedCitation', 'StyleLike', 'StyleMissing',
+    'StyleRefused', 'Warned', 'about', 'check_entries', 'check_file', 'check_locale',
+    'check_references', 'check_style', 'find', 'is_locale', 'items_of', 'names', 'render',
+    'style_of', 'variables_of',
 ]
 
 

@@ -3,16 +3,18 @@ from __future__ import annotations
 
 import json
 from dataclasses import dataclass
-from typing import List, Optional, Sequence
+from typing import Any, Dict, List, Optional, Sequence
 
 from .._citing import cite_texts
 from .._library import CiteTexts
 from ..answer import Answer
 from ..errors import TextRefused
-from ..texts import TextWarning
+from ..texts import TextFault, TextWarning
+from .abbreviations import Abbreviations
 from .cites import Citation
 from .entries import Entry
-from .errors import CitationRefused, EntriesRefused, StyleRefused, place
+from .errors import (AbbreviationsRefused, CitationRefused, EntriesRefused, StyleRefused,
+                     place)
 from .locales import LocaleFile
 from .style import Style
 from .warned import Warned
@@ -20,24 +22,31 @@ from .warned import Warned
 
 @dataclass(frozen=True)
 class Document:
-    """What is rendered: a style, locale files, entries, citations, and the language in place of the
-    style's."""
+    """What is rendered: a style, locale files, entries, citations, the language in place of the
+    style's, and abbreviations."""
 
     style: Style
     locales: Sequence[LocaleFile]
     entries: Sequence[Entry]
     citations: Sequence[Citation]
     language: str
+    abbreviations: Optional[Abbreviations] = None
 
-    def answer(self) -> Answer:
-        """The answer. Raises TextRefused where a part of the document is wrong; NumberOverflow or
-        OutOfMemory; and LibraryMissing."""
-        citations = [citation.data() for citation in self.citations]
+    def answer(self, warns: bool = True) -> Answer:
+        """The answer, with what is odd unless that isn't asked for. Raises TextRefused where a part
+        of the document is wrong; NumberOverflow or OutOfMemory; and LibraryMissing."""
+        citations = ', '.join([citation.json for citation in self.citations])
         return cite_texts(CiteTexts(
             style=bytes_of(self.style.text), items=json_of(self.entries),
-            citations=json_of(citations),
+            citations=f'[{citations}]'.encode('utf-8', 'replace'),
             locales=json_of([locale.text for locale in self.locales]),
-            options=json_of({'locale': self.language})))
+            options=json_of(self._options())), warns)
+
+    def _options(self) -> Dict[str, Any]:
+        options: Dict[str, Any] = {'locale': self.language}
+        if self.abbreviations is not None:
+            options['abbreviations'] = self.abbreviations.value
+        return options
 
     def warned(self, remark: TextWarning) -> Warned:
         """A remark of the library, with its place in the document."""
@@ -63,6 +72,8 @@ class Document:
                                    fault.message)
         if fault.file == 'items':
             return EntriesRefused(str(self.warned(fault)))
+        if fault.file == 'options' and self.abbreviations is not None:
+            return AbbreviationsRefused(self.abbreviations.file, None, None, _at_part(fault))
         return StyleRefused(self._file(fault.file), fault.line, fault.column, fault.message)
 
     def _file(self, file: str) -> str:
@@ -82,6 +93,12 @@ def steps_of(remark: TextWarning) -> List[str]:
     """The steps of the JSON Pointer (RFC 6901) of a remark."""
     return [step.replace('~1', '/').replace('~0', '~')
             for step in (remark.pointer or '').split('/')[1:]]
+
+
+def _at_part(fault: TextFault) -> str:
+    """What is wrong with a part of an option, with the way to it."""
+    pointer = _pointer(steps_of(fault)[1:])
+    return f'{pointer}: {fault.message}' if pointer else fault.message
 
 
 def json_of(value: object) -> bytes:

@@ -1,8 +1,12 @@
 """Cites and citations, as a document has them."""
 from __future__ import annotations
 
+import json
+import operator
 import reprlib
+from collections import abc
 from dataclasses import dataclass
+from functools import cached_property
 from typing import (Any, Dict, Iterator, List, Mapping, Optional, Sequence, Tuple, Union,
                     overload)
 
@@ -21,10 +25,13 @@ LABELS = (
 )
 """The kinds of locators of CSL 1.0.2."""
 
+_JSON = json.JSONEncoder(ensure_ascii=False)
+_KNOWN_LABELS = frozenset(LABELS)
 _OLDER_LABELS = {'sub verbo': 'sub-verbo'}
 _TEXTS = ('id', 'locator', 'label', 'prefix', 'suffix')
 _FLAGS = ('suppress-author', 'author-only', 'hidden')
 _KEYS = (*_TEXTS, *_FLAGS, 'note')
+_FIELDS = tuple((key, key.replace('-', '_')) for key in _KEYS)
 _CITATION_KEYS = ('schema', 'citationID', 'citationItems', 'properties')
 _PROPERTIES = ('noteIndex', 'unsorted')
 _NO_CITATION = 'no citation, which is a list of cites or an object with citationItems'
@@ -50,12 +57,18 @@ class Cite:
 
     def data(self) -> Dict[str, Any]:
         """The cite as JSON has it, without what doesn't apply."""
-        told = {key: getattr(self, key.replace('-', '_')) for key in _KEYS}
+        told: Dict[str, Any] = {}
+        for key, name in _FIELDS:
+            value = getattr(self, name)
+            if value is not None and value is not False and value != '':
+                told[key] = value
         if self.locator is None:
-            del told['label']
-        return {key: value for key, value in told.items()
-                if value is not None and value is not False and value != ''}
+            told.pop('label', None)
+        return told
 
+
+_SETTLED = frozenset((str, locator, str, str, str, bool, bool, bool, note)
+                     for locator in (str, type(None)) for note in (int, type(None)))
 
 CiteLike = Union[Cite, Mapping[str, Any]]
 """A cite, or an object of CSL-JSON: `id`, `locator`, `label`, `prefix`, `suffix`,
@@ -106,6 +119,11 @@ class Citation(CiteSequence):
             properties['unsorted'] = True
         return {'citationItems': cites, 'properties': properties} if properties else cites
 
+    @cached_property
+    def json(self) -> str:
+        """The JSON of `data`."""
+        return _JSON.encode(self.data())
+
 
 CitationLike = Union[Citation, Sequence[CiteLike], Mapping[str, Any]]
 """A citation, a list of cites, or an object as in csl-citation.json: `citationItems`, and maybe
@@ -126,8 +144,10 @@ class CitationReader:
 
     def _citation(self, number: int, value: Any) -> Citation:
         if isinstance(value, Citation):
-            return Citation(self._cites(number, value.cites), value.note_index, value.unsorted)
-        if isinstance(value, Mapping):
+            cites = self._cites(number, value.cites)
+            is_same = len(cites) == len(value.cites) and all(map(operator.is_, cites, value.cites))
+            return value if is_same else Citation(cites, value.note_index, value.unsorted)
+        if isinstance(value, abc.Mapping):
             return self._citation_of_object(number, value)
         if not _is_list(value):
             raise CitationRefused(number, None, None, _NO_CITATION)
@@ -160,9 +180,11 @@ class CitationReader:
                 self.warnings.append(Warned(place(number, None, key), fault, citation=number))
 
     def _cites(self, number: int, values: Any) -> Tuple[Cite, ...]:
-        return tuple(self._cite(number, index, cite) for index, cite in enumerate(values))
+        return tuple([self._cite(number, index, cite) for index, cite in enumerate(values)])
 
     def _cite(self, number: int, index: int, value: Any) -> Cite:
+        if isinstance(value, Cite) and _is_settled(value):
+            return value
         told = value.data() if isinstance(value, Cite) else value
         if not isinstance(told, Mapping):
             raise CitationRefused(number, index, None, 'no cite, which is an object')
@@ -192,8 +214,17 @@ class CitationReader:
         self.warnings.append(Warned(place(number, index, field), fault, citation=number))
 
 
+def _is_settled(cite: Cite) -> bool:
+    """Whether a cite is of its form, and says nothing that is left out."""
+    if tuple(map(type, vars(cite).values())) not in _SETTLED or cite.id == '':
+        return False
+    has_label = cite.label in _KNOWN_LABELS if cite.locator else \
+        cite.locator is None and cite.label == 'page'
+    return has_label and (cite.note is None or _is_note(cite.note))
+
+
 def _is_list(value: Any) -> bool:
-    return isinstance(value, Sequence) and not isinstance(value, (str, bytes))
+    return isinstance(value, (list, tuple, abc.Sequence)) and not isinstance(value, (str, bytes))
 
 
 def _is_note(value: Any) -> bool:

@@ -2,6 +2,7 @@
 from __future__ import annotations
 
 import json
+from collections import abc
 from typing import Any, Dict, Iterable, List, Mapping
 
 from .errors import EntriesRefused
@@ -64,7 +65,8 @@ def _depth(value: Any) -> int:
     depth, level = 0, {id(value): value}
     while level and depth <= _DEEPEST:
         depth += 1
-        inner = [part.values() if isinstance(part, Mapping) else part for part in level.values()]
+        inner = [part.values() if isinstance(part, abc.Mapping) else part
+                 for part in level.values()]
         level = {id(member): member for part in inner for member in part
-                 if isinstance(member, (Mapping, list, tuple))}
+                 if isinstance(member, (list, tuple, abc.Mapping))}
     return depth

@@ -5,19 +5,17 @@ from typing import Optional
 
 from ..errors import GamhilonError
 
-__all__ = ['CitationRefused', 'EntriesRefused', 'StyleMissing', 'StyleRefused']
+__all__ = [
+    'AbbreviationsRefused', 'CitationRefused', 'EntriesRefused', 'StyleMissing', 'StyleRefused',
+]
 
 
 class StyleMissing(GamhilonError, ValueError):
     """There is no style of this name or path."""
 
 
-class StyleRefused(GamhilonError, ValueError):
-    """A style file or a locale file isn't one that can be read.
-
-    `file` is its path, or `the style` where its text was handed in; `line` and `column` count from
-    1, and are None where the fault has no place. The message says all of it.
-    """
+class _FileRefused(GamhilonError, ValueError):
+    """A file isn't one that can be read. The message says all of it."""
 
     def __init__(self, file: str, line: Optional[int], column: Optional[int], fault: str) -> None:
         super().__init__(file, line, column, fault)
@@ -26,6 +24,22 @@ class StyleRefused(GamhilonError, ValueError):
     def __str__(self) -> str:
         place = '' if self.line is None else f':{self.line}:{self.column}'
         return f'{self.file}{place}: {self.fault}'
+
+
+class StyleRefused(_FileRefused):
+    """A style file or a locale file isn't one that can be read.
+
+    `file` is its path, or `the style` where its text was handed in; `line` and `column` count from
+    1, and are None where the fault has no place. The message says all of it.
+    """
+
+
+class AbbreviationsRefused(_FileRefused):
+    """A file of abbreviations isn't one that can be read.
+
+    `file` is its path, or `the abbreviations` where its value was handed in; `line` and `column`
+    count from 1, and are None where the fault has no place. The message says all of it.
+    """
 
 
 class CitationRefused(GamhilonError, ValueError):

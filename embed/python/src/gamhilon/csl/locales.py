@@ -62,8 +62,12 @@ def files_for(language: str, locales: Optional[Locales]) -> List[LocaleFile]:
 
 def _tags(language: str) -> List[str]:
     """The tags of the files for a language; none for the words that the library has."""
-    tags = [with_dialect(language), _PRIMARY_DIALECTS.get(language.split('-')[0].lower(), '')]
+    tags = [with_dialect(language), _PRIMARY_DIALECTS.get(_without_dialect(language), '')]
     return [tag for tag in dict.fromkeys(tags) if tag and tag.lower() != BUILT_IN.lower()]
+
+
+def _without_dialect(tag: str) -> str:
+    return tag.replace('_', '-').split('-')[0].lower()
 
 
 def _handed_in(number: int, locale: str) -> LocaleFile:

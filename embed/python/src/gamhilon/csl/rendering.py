@@ -6,15 +6,16 @@ from typing import Dict, Iterable, List, Mapping, Optional, Sequence, Tuple, Uni
 
 from .._deprecated import deprecated
 from .._nearest import meant
-from ..answer import Answer, Item, Node, Tree, plain
+from ..answer import Answer, Item, Node, Tree, shows_nothing
 from ..errors import TextRefused
+from .abbreviations import Abbreviations, AbbreviationsLike, abbreviations_of
 from .calling import Document, steps_of
 from .cites import Citation, CitationLike, CitationReader, Cite
 from .entries import Entry, EntryReader, stand_in, warned_of_stand_in
 from .errors import CitationRefused, StyleRefused
-from .handed_in import ReferencesLike, StyleLike, items_of, style_of
+from .handed_in import ReferencesLike, StyleLike, read_of, style_of
 from .locales import LocaleFile, Locales, files_for, with_dialect
-from .results import Rendered, item_text
+from .results import Rendered
 from .style import About, Style, is_locale, language_of, load, name_of
 from .warned import Warned
 
@@ -31,7 +32,8 @@ LANGUAGE = 'en-US'
 def render(style: StyleLike, references: Optional[ReferencesLike] = None,
            citations: Optional[Iterable[CitationLike]] = None, *,
            nocite: Union[str, Iterable[str]] = (), locale: Optional[str] = None,
-           locales: Optional[Locales] = None, entries: Optional[ReferencesLike] = None) -> Rendered:
+           locales: Optional[Locales] = None, abbreviations: Optional[AbbreviationsLike] = None,
+           entries: Optional[ReferencesLike] = None) -> Rendered:
     """Citations and the bibliography in a style.
 
         >>> works = [{'id': 'doe99', 'type': 'book', 'title': 'On Order',
@@ -49,28 +51,63 @@ def render(style: StyleLike, references: Optional[ReferencesLike] = None,
     csl-citation.json, whose cites keep their order where they are `unsorted`; without citations all
     references are listed. `nocite` are keys that are listed without being cited, `'*'` for all.
     `locale` is the language in place of the style's; `locales` a folder of locale files in place of
-    Debian's, or the paths or texts of some. `entries` is the older name of `references`.
+    Debian's, or the paths or texts of some. `abbreviations` are short forms of texts, as of the
+    titles of journals: the path of a file in the form of pandoc and Zotero, or what its JSON has.
+    `entries` is the older name of `references`.
 
-    What is odd is a warning of what is rendered. An entry that can't be written as it is loses the
-    field that is wrong, or its id stands for it. Raises StyleMissing where there is no such style,
-    StyleRefused where a style or a locale file isn't one, CitationRefused where a citation isn't
-    one or cites an entry that isn't there, EntriesRefused where the references are no list (each of
-    these is a ValueError); NumberOverflow or OutOfMemory, and LibraryMissing; what
-    `references.load` raises of a path. Each of them is a GamhilonError.
+    What is odd, in the file of the references too, is in the `warnings` of what is rendered. An
+    entry that can't be written as it is loses the field that is wrong, or its id stands for it.
+    Raises StyleMissing where there is no such style, StyleRefused where a style or a locale file
+    isn't one, CitationRefused where a citation isn't one or cites an entry that isn't there,
+    EntriesRefused where the references are no list, AbbreviationsRefused where abbreviations aren't
+    of their form (each of these is a ValueError); NumberOverflow or OutOfMemory, and
+    LibraryMissing; what `references.load` raises of a path. All of these but an OSError of a file
+    are GamhilonErrors.
     """
     given = _references(references, entries)
-    entry_reader, citation_reader = EntryReader(), CitationReader()
+    reader = CitationReader()
     found = load(style_of(style))
-    cites = citation_reader.citations(() if citations is None else citations)
-    known = entry_reader.entries(items_of(given))
-    listed = _listed(known, '*' if citations is None else nocite)
-    hidden = Citation(tuple(Cite(key, hidden=True) for key in listed))
-    asked = [*cites, hidden] if listed else cites
-    language = with_dialect(locale or found.language or LANGUAGE)
-    files = files_for(language, locales)
-    document = Document(found, files, list(_cited(known, asked).values()), asked, language)
-    warnings = [*entry_reader.warnings, *citation_reader.warnings]
-    return _rendered(document, warnings, len(cites))
+    cites = reader.citations(() if citations is None else citations)
+    renderer = Renderer(found, given, locale, locales, abbreviations_of(abbreviations))
+    return renderer.render(cites, '*' if citations is None else nocite, reader.warnings)
+
+
+class Renderer:
+    """A style with references, which are read once, and write citations as often as they are asked
+    for. Raises what `render` raises of them."""
+
+    def __init__(self, style: Style, references: ReferencesLike, locale: Optional[str] = None,
+                 locales: Optional[Locales] = None,
+                 abbreviations: Optional[Abbreviations] = None) -> None:
+        reader = EntryReader()
+        items, odd = read_of(references)
+        self._style, self._locales, self._abbreviations = style, locales, abbreviations
+        self._entries, self._warnings = reader.entries(items), [*odd, *reader.warnings]
+        self._language = with_dialect(locale or style.language or LANGUAGE)
+        self._files: Optional[List[LocaleFile]] = None
+
+    def render(self, citations: Sequence[Citation], nocite: Union[str, Iterable[str]] = (),
+               warnings: Sequence[Warned] = ()) -> Rendered:
+        """What `render` gives of citations that are of their form; `warnings` are those of reading
+        them."""
+        document = self._document(citations, nocite)
+        return _rendered(document, [*self._warnings, *warnings], len(citations))
+
+    def trees(self, citations: Sequence[Citation]) -> List[Tree]:
+        """The trees of citations alone, without what is odd."""
+        _, answer = _answered(self._document(citations, ()), [], warns=False)
+        return [citation.content for citation in answer.citations]
+
+    def _document(self, citations: Sequence[Citation],
+                  nocite: Union[str, Iterable[str]]) -> Document:
+        listed = _listed(self._entries, nocite)
+        hidden = Citation(tuple(Cite(key, hidden=True) for key in listed))
+        asked = [*citations, hidden] if listed else citations
+        if self._files is None:
+            self._files = files_for(self._language, self._locales)
+        entries = list(_cited(self._entries, asked).values())
+        return Document(self._style, self._files, entries, asked, self._language,
+                        self._abbreviations)
 
 
 def _references(references: Optional[ReferencesLike],
@@ -98,7 +135,11 @@ def _listed(entries: Mapping[str, Entry], nocite: Union[str, Iterable[str]]) -> 
 
 
 def about(style: StyleLike) -> About:
-    """What a style is. Raises StyleMissing and StyleRefused, as `render` does."""
+    """What a style is. Raises StyleMissing and StyleRefused, as `render` does.
+
+        >>> about('notes')
+        About(title='Gamhilon notes', is_note=True, has_bibliography=True)
+    """
     found = load(style_of(style))
     if found.about is not None:
         return found.about
@@ -106,10 +147,10 @@ def about(style: StyleLike) -> About:
     raise StyleRefused(found.file, None, None, 'it is no XML')
 
 
-def check_style(text: str, file: str = 'the style') -> List[Warned]:
-    """What is odd in the text of a style, which places name `file`. Raises StyleMissing and
-    StyleRefused, as `render` does."""
-    return _refuse(_of_style(load(text, file)))
+def check_style(text: StyleLike, file: str = 'the style') -> List[Warned]:
+    """What is odd in a style, as `render` takes it; `file` is how places name a text. Raises
+    StyleMissing and StyleRefused, as `render` does."""
+    return _refuse(_of_style(load(style_of(text), file)))
 
 
 def check_locale(text: str, file: str = 'the locale') -> List[Warned]:
@@ -122,9 +163,10 @@ def check_references(references: ReferencesLike) -> List[Warned]:
     """What is odd in references, as `render` takes them. Raises EntriesRefused where they are no
     list, or where one isn't of its form."""
     reader = EntryReader()
-    known = list(reader.entries(items_of(references)).values())
+    items, odd = read_of(references)
+    known = list(reader.entries(items).values())
     found = _refuse(replace(_of_style(load('author-date')), entries=known))
-    return [*reader.warnings, *found]
+    return [*odd, *reader.warnings, *found]
 
 
 def check_entries(entries: ReferencesLike) -> List[Warned]:
@@ -168,7 +210,7 @@ def _cited(entries: Dict[str, Entry], citations: Sequence[Citation]) -> Dict[str
     """The entries that are cited. Raises CitationRefused where one isn't there."""
     cited = set()
     for number, citation in enumerate(citations):
-        for index, cite in enumerate(citation):
+        for index, cite in enumerate(citation.cites):
             if cite.id not in entries:
                 fault = f'there is no entry {cite.id!r}{meant(cite.id, entries)}'
                 raise CitationRefused(number, index, 'id', fault)
@@ -179,16 +221,21 @@ def _cited(entries: Dict[str, Entry], citations: Sequence[Citation]) -> Dict[str
 def _rendered(document: Document, warnings: List[Warned], shown: int) -> Rendered:
     """The answer to a document, of whose citations the first ones are shown. Fields of entries that
     are wrong are left out."""
-    while True:
-        try:
-            answer = document.answer()
-            break
-        except TextRefused as refusal:
-            document = _mended(document, refusal, warnings)
+    document, answer = _answered(document, warnings)
     warnings += [document.warned(warning) for warning in answer.warnings]
     answer = _with_stand_ins(document, answer, warnings)
     return Rendered(replace(answer, citations=answer.citations[:shown], warnings=[]), warnings,
                     document.citations[:shown])
+
+
+def _answered(document: Document, warnings: List[Warned],
+              warns: bool = True) -> Tuple[Document, Answer]:
+    """A document without what is wrong in its entries, and the answer to it."""
+    while True:
+        try:
+            return document, document.answer(warns)
+        except TextRefused as refusal:
+            document = _mended(document, refusal, warnings)
 
 
 def _mended(document: Document, refusal: TextRefused, warnings: List[Warned]) -> Document:
@@ -214,13 +261,13 @@ def _with_stand_ins(document: Document, answer: Answer, warnings: List[Warned]) 
     """The answer, in whose list the id stands for an entry of which the style writes nothing. Warns
     of that, and of citations that show nothing."""
     for number, (citation, cites) in enumerate(zip(answer.citations, document.citations)):
-        if not plain(citation.content).strip() and not all(cite.hidden for cite in cites):
+        if shows_nothing(citation.content) and not all(cite.hidden for cite in cites):
             warnings.append(Warned(f'citation {number}', NOTHING, citation=number))
     if answer.bibliography is None:
         return answer
     items = []
     for item in answer.bibliography.items:
-        if not item_text(item).strip():
+        if shows_nothing(item.content) and shows_nothing([item.first_field or {'text': ''}]):
             warnings.append(warned_of_stand_in(item.key, NOTHING))
             item = Item(item.key, _stand_in(item.key))
         items.append(item)

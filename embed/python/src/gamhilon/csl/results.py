@@ -93,8 +93,8 @@ class RenderedBibliography(Dict[str, str]):
 @dataclass(frozen=True)
 class Rendered:
     """Citations and the bibliography in a style: as texts (`citations`, `bibliography`), as trees
-    (`answer`), and as pages (`to_html`, `to_markdown`). `warnings` has what was odd in the style,
-    the references and the citations, each with its place."""
+    (`answer`), and as pages (`to_html`, `to_markdown`, `to_latex`). `warnings` has what was odd in
+    the style, the references and the citations, each with its place."""
 
     answer: Answer
     warnings: List[Warned]
@@ -122,6 +122,11 @@ class Rendered:
         """The Markdown of all: a paragraph for each citation, and the bibliography."""
         citations = [f'{citation.to_markdown(links=links)}\n\n' for citation in self.citations]
         return ''.join([*citations, self.bibliography.to_markdown()])
+
+    def to_latex(self, *, links: bool = False) -> str:
+        """The LaTeX of all: a paragraph for each citation, and the bibliography."""
+        citations = [f'{citation.to_latex(links=links)}\n\n' for citation in self.citations]
+        return ''.join([*citations, self.bibliography.to_latex()])
 
     def __str__(self) -> str:
         parts = ['\n'.join(self.citations), str(self.bibliography)]

@@ -4,6 +4,7 @@ from __future__ import annotations
 
 import os
 from dataclasses import dataclass
+from functools import lru_cache
 from typing import FrozenSet, List, Optional
 from xml.etree import ElementTree
 
@@ -105,7 +106,11 @@ def name_of(text: str) -> str:
 
 def variables_of(style: StyleLike) -> FrozenSet[str]:
     """The variables of CSL that a style writes, by its name, its path or its text: those of its
-    texts, numbers, dates, names and labels. Raises StyleMissing, as `load` does."""
+    texts, numbers, dates, names and labels. Raises StyleMissing, as `load` does.
+
+        >>> sorted(variables_of('notes') & {'title', 'page', 'PMID'})
+        ['page', 'title']
+    """
     root = _root_of(load(style_of(style)).text)
     if root is None:
         return frozenset()
@@ -140,6 +145,7 @@ def _independent(file: str, text: str) -> Style:
         text = _read(file)
 
 
+@lru_cache(maxsize=8)
 def _root_of(text: str) -> Optional[ElementTree.Element]:
     """The root of an XML text; None where it is no XML, of which the library tells the place."""
     try:

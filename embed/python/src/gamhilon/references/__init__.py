@@ -4,10 +4,11 @@ CSL-JSON.
     from gamhilon import references
 
     read = references.load('library.bib')
-    print(read.items)                   # CSL-JSON
-    for loss in read.losses:
-        print(loss)                     # doe99: editorc: CSL has no place for a second list of
-        names of the kind founder
+    print(read.items)           # CSL-JSON
+    for loss in read.losses:    # fields for which CSL has no place
+        print(loss)
+    for warning in read.warnings:
+        print(warning)
 
 BibTeX and BibLaTeX are read by pybtex (Debian's python3-pybtex), and YAML by PyYAML (python3-yaml);
 CSL-JSON needs neither.
@@ -57,6 +58,11 @@ class References:
     losses: List[Loss]
     problems: List[str]
 
+    @property
+    def warnings(self) -> List[str]:
+        """What is odd in the file: its problems."""
+        return self.problems
+
 
 def load(path: PathLike, *, form: Optional[str] = None, lang: str = 'en-US') -> References:
     """The references of a file, or of standard input where the path is `-`.
@@ -85,11 +91,18 @@ def is_named(path: str) -> bool:
 
 
 def loads(text: str, *, form: Optional[str] = None, lang: str = 'en-US') -> References:
-    """The references of a text, as `load` reads them of a file."""
+    """The references of a text, as `load` reads them of a file.
+
+        >>> read = loads('[{"id": "doe99", "title": "On Order"}, {"id": "doe99"}]')
+        >>> [item['id'] for item in read.items]
+        ['doe99']
+        >>> print(read.losses[0].reason)
+        a second item of this id, in place of the first
+    """
     text = text[1:] if text.startswith(_BYTE_ORDER_MARK) else text
     form = form or form_of(text)
     if form not in FORMS:
-        raise ValueError(f'there is no form {form!r}: the forms are {", ".join(FORMS)}')
+        raise ReferencesError(f'there is no form {form!r}: the forms are {", ".join(FORMS)}')
     if form == 'csl-json':
         items, losses, problems = _csl_json(text)
     elif form == 'hayagriva':
@@ -105,6 +118,10 @@ def form_of(text: str) -> str:
     if text.lstrip(_BYTE_ORDER_MARK + ' \t\r\n')[:1] in ('[', '{'):
         return 'csl-json'
     return 'biblatex' if _COMMAND.search(text) else 'hayagriva'
+
+
+def __dir__() -> List[str]:
+    return sorted(__all__)
 
 
 def _suffix(path: str) -> str:

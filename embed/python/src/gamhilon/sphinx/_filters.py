@@ -6,6 +6,8 @@ import operator
 import re
 from typing import Any, Callable, Dict, Type
 
+from ..errors import GamhilonError
+
 __all__ = ['ALL', 'CITED', 'NOT_CITED', 'Filter', 'FilterFault']
 
 ALL, CITED, NOT_CITED = 'True', 'cited', 'not cited'
@@ -21,7 +23,7 @@ _SETS: Dict[Type[ast.operator], Callable[[Any, Any], Any]] = {
 }
 
 
-class FilterFault(ValueError):
+class FilterFault(GamhilonError, ValueError):
     """An expression isn't one of a filter."""
 
 

@@ -1,0 +1,106 @@
+"""Sites of Markdown some of whose pages have changed since they were written."""
+from random import Random
+
+import pytest
+from conftest import REFERENCES
+from stand_ins import MadeUpStyle, NumberedStyle
+from test_markdown_pages import PARTS, made_up_page
+
+from gamhilon import _library, markdown_pages
+
+PAGES = {
+    'one': 'A [@doe99].\n\nB @roe00, c[^n].\n\n[^n]: In [@doe01].\n',
+    'two': 'D [@roe00].\n',
+    'three': 'E [@doe01].\n\nF[^m].\n\n[^m]: See [@doe99].\n',
+}
+
+
+class Library:
+    """What stands in for the library, and how often it was called."""
+
+    def __init__(self, kind, monkeypatch):
+        self.calls = 0
+        functions = kind()
+        for name in ('gamhilon_cite', 'gamhilon_find_cite_fault'):
+            setattr(functions, name, self._counted(getattr(functions, name)))
+        monkeypatch.setattr(_library, '_library', _library.Library(functions))
+
+    def _counted(self, function):
+        def called(*given):
+            self.calls += 1
+            return function(*given)
+        return called
+
+
+@pytest.fixture(params=[MadeUpStyle, NumberedStyle])
+def library(request, monkeypatch):
+    return Library(request.param, monkeypatch)
+
+
+def site_of(texts, style='author-date', **more):
+    site = markdown_pages.Site(style, REFERENCES, **more)
+    for name, text in texts.items():
+        site.add(name, text)
+    site.write(['roe00'])
+    return site
+
+
+def shown(site):
+    return {name: site.page(name) for name in site.pages}
+
+
+def test_nothing_is_asked_for_where_nothing_has_changed(library):
+    site = site_of(PAGES)
+    before, calls = shown(site), library.calls
+    assert site.revise({}) == [] and site.revise({'two': PAGES['two']}) == ['two']
+    assert shown(site) == before and library.calls == calls
+
+
+@pytest.mark.parametrize('style', ['author-date', 'notes'])
+def test_nothing_is_asked_for_where_words_have_changed(style, library):
+    site = site_of(PAGES, style)
+    calls = library.calls
+    edited = 'New [@doe99], and [@nobody].\n\nMore\n\n@roe00 c[^n].\n\n[^n]: As in [@doe01].\n'
+    assert site.revise({'one': edited}) == ['one']
+    assert library.calls == calls
+    assert shown(site) == shown(site_of({**PAGES, 'one': edited}, style))
+    assert [str(warning) for warning in site.page('one').warnings] == [
+        'one:1:19: no entry has the key nobody']
+
+
+@pytest.mark.parametrize('style', ['author-date', 'notes'])
+@pytest.mark.parametrize('list_page', [None, 'three'])
+@pytest.mark.parametrize('name, text', [
+    ('one', 'A [@roe00].\n'), ('two', 'D[^o] [@roe00; @doe01] [@doe99].\n\n[^o]: Own.\n'),
+    ('two', 'D[^o] [@roe00].\n\n[^o]: Own.\n'), ('three', ''), ('two', '[@nobody]\n'),
+])
+def test_all_pages_are_right_where_citations_have_changed(name, text, style, list_page, library):
+    site = site_of(PAGES, style, list_page=list_page)
+    fresh = shown(site_of({**PAGES, name: text}, style, list_page=list_page))
+    before = shown(site)
+    drawn = site.revise({name: text})
+    assert shown(site) == fresh and name in drawn
+    assert {other for other in PAGES if fresh[other] != before[other]} <= {*drawn}
+
+
+def test_other_pages_are_not_drawn_where_the_same_is_written_of_them(monkeypatch):
+    Library(MadeUpStyle, monkeypatch)
+    site = site_of(PAGES, list_page='three')
+    assert site.revise({'two': 'D [@doe99].\n'}) == ['two']
+    assert site.page('two').text == 'D ([Doe, On Order](#ref-doe99)).\n'
+
+
+@pytest.mark.parametrize('style', ['author-date', 'notes'])
+def test_pages_that_change_again_and_again(style, library):
+    random = Random(4)
+    parts = [part for part in PARTS if part != '^[note @doe99]']
+    texts = {name: made_up_page(random, parts) for name in 'abcd'}
+    for list_page in (None, 'c'):
+        site = site_of(texts, style, html=True, list_page=list_page)
+        for _ in range(25):
+            changed = {name: made_up_page(random, parts)
+                       for name in random.sample('abcd', random.randint(1, 2))}
+            texts = {**texts, **changed}
+            site.revise(changed)
+            assert shown(site) == shown(site_of(texts, style, html=True, list_page=list_page))
+            assert [str(one) for one in site.warnings] == []
