@@ -2,8 +2,9 @@
 """house.py [-v]: prints how the crates read, in figures: how many `requires` above csl_writers are
 about rings of macros and about the places of cites, how many clauses and definitions are wider than
 100 columns, how many functions are longer than 40 lines, their contracts included, how many lines
-the proofs have, by crate, and how many public names and lines of pages have a word that
-docs/GLOSSARY.md doesn't want. With -v each of these places is listed."""
+the proofs have, by crate, how many public names and lines of pages have a word that
+docs/GLOSSARY.md doesn't want, and how many lines of pages, comments and messages have a phrase that
+CONTRIBUTING.md doesn't want. With -v each of these places is listed."""
 import glob
 import os
 import re
@@ -116,12 +117,12 @@ def public_names(crates):
 
 
 def pages():
-    """Each line of the pages but those of the glossary, and its place."""
+    """Each line of the pages but those of the glossary and of the map, and its place."""
     names = ['README.md', 'CONTRIBUTING.md', 'embed/README.md', 'embed/python/README.md']
     paths = ['%s/%s' % (ROOT, name) for name in names] + sorted(glob.glob(ROOT + '/docs/*.md'))
     for path in paths:
         for at, line in enumerate(lines_of(path), 1):
-            if not path.endswith('/GLOSSARY.md'):
+            if not path.endswith(('/GLOSSARY.md', '/MAP.md')):
                 yield line, (path, at)
 
 
@@ -139,6 +140,43 @@ def strays(crates):
         found = [place for name, place in names if any(word in words_of(name) for word in of_names)]
         found += [place for line, place in lines if any(word.search(line) for word in of_pages)]
         yield words, instead, found
+
+
+def unwanted_phrases():
+    """The phrases that CONTRIBUTING.md lists as not to be written, by what stands in their place."""
+    section = '\n'.join(lines_of(ROOT + '/CONTRIBUTING.md')).partition('## English')[2].partition('\n## ')[0]
+    for phrases, instead in re.findall(r'^\| (\w[^|]*) \| ([^|]+) \|$', section, re.MULTILINE)[1:]:
+        yield phrases.split(', '), instead
+
+
+def prose_of_pages():
+    """Each line of the pages that isn't inside a block of code, without what stands in backquotes."""
+    is_code = False
+    for line, place in pages():
+        is_code ^= line.startswith('```')
+        if not is_code and not place[0].endswith('CONTRIBUTING.md') and not line.startswith('    '):
+            yield re.sub(r'`[^`]*`', '', line), place
+
+
+def prose_of_code(crates, pattern):
+    """What a pattern finds on each line of the code of the crates, and its place."""
+    for crate in crates:
+        for path in files(crate, 'src', '.rt'):
+            for at, line in enumerate(lines_of(path), 1):
+                found = re.search(pattern, line)
+                if found:
+                    yield re.sub(r'`[^`]*`', '', found.group(1)), (path, at)
+
+
+def stray_phrases(crates):
+    """For each phrase that is not to be written: the phrases, what stands in their place, and where
+    pages, comments and messages have them."""
+    proses = [('pages', [*prose_of_pages()]), ('comments', [*prose_of_code(crates, r'//[/!]?(.*)')]),
+              ('messages', [*prose_of_code(crates, r'^[^/]*?"([^"]* [^"]* [^"]*)"')])]
+    for phrases, instead in unwanted_phrases():
+        wanted = re.compile(r'\b(?:%s)\b' % '|'.join(phrases), re.IGNORECASE)
+        for name, lines in proses:
+            yield phrases, name, instead, [place for line, place in lines if wanted.search(line)]
 
 
 def report(name, places, is_told):
@@ -183,6 +221,8 @@ def main():
             print('       %6d %s' % (count, crate))
     for words, instead, found in strays(below):
         report('times %s, for %s' % (', '.join(words), instead), found, is_told)
+    for phrases, name, instead, found in stray_phrases(below):
+        report('lines of %s with %s, for %s' % (name, ', '.join(phrases), instead), found, is_told)
     return 0
 
 

@@ -3,15 +3,20 @@
 show.
 
 Each file that a page names is there, and so is each crate, module, definition and function: every
-word that stands in backquotes and looks like a name occurs in the code. Each definition of
-docs/DEFINITIONS.md stands in specs/ of a crate that its section names. With a built cite_run, each
-document of docs/TUTORIAL.md gives the output that stands below it. The last line is 'N passed, M
-failed', and the exit status is 1 where one failed."""
+word that stands in backquotes and looks like a name occurs in the code. docs/MAP.md is what map.py
+makes. Each definition of docs/DEFINITIONS.md stands in specs/ of a crate that its section names.
+docs/README.md and mkdocs.yml lead to each page, and mkdocs builds the site where it is installed.
+With a built cite_run, each document of docs/TUTORIAL.md gives the output that stands below it. The
+last line is 'N passed, M failed', and the exit status is 1 where one failed."""
 import glob
 import os
 import re
+import shutil
 import subprocess
 import sys
+import tempfile
+
+import map as map_page
 
 ROOT = os.path.dirname(os.path.dirname(os.path.dirname(os.path.abspath(__file__))))
 PAGES = ['README.md', 'CONTRIBUTING.md', 'CHANGELOG.md', 'embed/README.md', 'embed/python/README.md', *sorted(
@@ -98,6 +103,32 @@ def lost_definitions():
     return lost
 
 
+def lost_of_map():
+    """Modules that docs/MAP.md names and that aren't there, and lines of it that the script doesn't make."""
+    named = [it for it in code_spans(map_page.PAGE) if re.fullmatch(r'\w+::\w+', it) and it.islower() and not it.startswith('c::')]
+    lost = [it for it in named if not os.path.isfile('{}/crates/{}/src/{}.rt'.format(ROOT, *it.split('::')))]
+    written, made = text_of(map_page.PAGE).splitlines(), map_page.page().splitlines()
+    apart = [it for it in written if it not in made] + [it for it in made if it not in written]
+    return lost + (apart or ['lines in another order'] * (written != made))
+
+
+def lost_of_book():
+    """Pages of docs/ that docs/README.md or the site doesn't lead to."""
+    pages = [it[len('docs/'):] for it in PAGES if it.startswith('docs/') and it != 'docs/README.md']
+    linked = re.findall(r'\]\(([^)]+\.md)\)', text_of('docs/README.md'))
+    listed = re.findall(r'^ +- (\S+\.md)$', text_of('mkdocs.yml'), re.MULTILINE)
+    return [f'{it} in {name}' for name, found in (('docs/README.md', linked), ('mkdocs.yml', listed))
+            for it in pages if it not in found]
+
+
+def wrong_site():
+    """What mkdocs says of the pages, where it is installed and refuses them."""
+    with tempfile.TemporaryDirectory() as folder:
+        ran = subprocess.run(['mkdocs', 'build', '--strict', '--quiet', '--site-dir', folder], cwd=ROOT, stdout=subprocess.PIPE,
+                             stderr=subprocess.STDOUT, text=True, check=False)
+    return [ran.stdout] if ran.returncode else []
+
+
 def shown_documents(page):
     """The documents of a page, each with the output that stands below it."""
     return re.findall(r'^```json\n(.*?)^```\n\n(?:[^`\n][^\n]*\n+)*^```text\n(.*?)^```$', text_of(page),
@@ -121,7 +152,11 @@ def checks(program):
     for page in PAGES:
         yield f'{page}: paths', lost_paths(page)
         yield f'{page}: names', lost_names(page, words)
+    yield 'docs/MAP.md: as tests/docs/map.py makes it', lost_of_map()
     yield 'docs/DEFINITIONS.md: definitions', lost_definitions()
+    yield 'docs/README.md: pages', lost_of_book()
+    if shutil.which('mkdocs'):
+        yield 'mkdocs.yml: the site', wrong_site()
     if len(shown_documents('docs/TUTORIAL.md')) < 4:
         yield 'docs/TUTORIAL.md: documents', ['fewer than four']
     if program:

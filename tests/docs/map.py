@@ -1,0 +1,471 @@
+#!/usr/bin/env python3
+"""map.py [--write]: prints docs/MAP.md, or writes it: for each element, attribute, value, term and
+variable of CSL 1.0.2 the modules that honour it.
+
+The names come from the crates: what each element may have from style_elements, the rest from
+csl_vocabulary. A module honours a name where its code has the field or the enum's variant that
+stands for it; TOKENS says which where the field isn't called like the attribute. DEFINITIONS names
+the definitions of what the driver decides; any other row has the first case of tests/writer whose
+style has the name. tests/docs/run.py holds the page to be what this prints."""
+import functools
+import glob
+import os
+import re
+import sys
+import textwrap
+
+HERE = os.path.dirname(os.path.abspath(__file__))
+ROOT = os.path.dirname(os.path.dirname(HERE))
+sys.path += [os.path.dirname(HERE), os.path.join(os.path.dirname(HERE), 'writer')]
+
+from cases import CASES
+
+PAGE = 'docs/MAP.md'
+READERS = ['style_reader', 'style_elements']
+# The writer of citations by style files, and what the driver does in the mode `csl`.
+PRODUCT = '''csl_texts cite_pieces cite_locale cite_numbers cite_dates cite_program cite_names cite_trees cite_walk cite_sorting
+cite_host cite_answer cite_call gamhilon csl_telling csl_mentions csl_tables csl_notes csl_runs csl_blocks csl_shown csl_arranging
+csl_authors csl_cited_mentions csl_requested_mentions csl_told_cites csl_assembly csl_passes'''.split()
+# The writer of layouts in JSON, and what the driver does in the modes `three` and `full`.
+PORT = '''csl_lookup csl_styles csl_context csl_picking csl_writing csl_positions csl_ambiguity csl_name_marks csl_grouping
+csl_collapse csl_substitution csl_rounds csl_assembly csl_passes csl_driver'''.split()
+# How many modules a row names at most: those that have the name most often.
+MOST = 3
+
+# The code that stands for an element, in the product and in the port.
+ELEMENTS = {
+    'style': (r'\bdriven_style\b', r'\bPreparedStyle\b'),
+    'locale': (r'\bstruct LocaleChain\b|\bstruct IndexedLocale\b|\bLocaleChain::new\b', r'\bfn first_answer\b|\bLocaleCode\b'),
+    'style-options': (r'\.options\.\w+_in_quote|options\.limit_day', r'\.punctuation_in_quote\b'),
+    'terms': (r'\bIndexedLocale\b', r'\bTermTable\b'),
+    'term': (r'\bpub fn (?:plain_)?term\b', r'\bTermTable\b'),
+    'single': (r'\bNumbered \{', r'\.single\b'),
+    'multiple': (r'\bNumbered \{', r'\.multiple\b'),
+    'macro': (r'\bOpenMacro\b', r'\bMacroTable\b'),
+    'citation': (r'\bdriven_citation\b|\bcite_scene\b', r'\.citation\.layout\b'),
+    'bibliography': (r'\bdriven_bibliography\b|\bitem_scene\b', r'\bbibliography\.layout\b|\bfn bibliography_of\b'),
+    'sort': (r'\b(?:citation|section|bibliography)\.sort\b|\bKeyScene\b', None),
+    'key': (r'\bSortKey\b|\bsection_key\b|\bkey\.key\b', None),
+    'layout': (r'\.layout\.(?:delimiter|affixes|formatting)\b', r'\blayout\.(?:delimiter|elements)\b'),
+    'text': (r'\bTextSource::|\bfn write_text\b', r'\bLayoutRenderingElement::Text\b|\bTextTarget::'),
+    'number': (r'\bfn write_number\b|\bfn number_text\b', r'\bLayoutRenderingElement::Number\b'),
+    'label': (r'\bfn write_(?:names_)?label\b', None),
+    'date': (r'\bfn write_date\b|\bfn date_text\b|\bDateFormat::', r'\bLayoutRenderingElement::Date\b'),
+    'date-part': (r'\bDatePart\b|\bDatePartName::', None),
+    'names': (r'\bStep::Names\b|\bself\.write_names\(', r'\bLayoutRenderingElement::Names\b|\bfn pick_names\b'),
+    'name': (r'\bNameRules\b|\bNameOptions\b', r'\bInheritableNameOptions\b'),
+    'name-part': (r'\bNamePart\b', None),
+    'et-al': (r'\bEtAlTerm::', r'\bOtherTerm::EtAl\b'),
+    'substitute': (r'\b(?:Open|Close)Substitute\b', r'\bsubstitute\b'),
+    'group': (r'\b(?:Open|Close)Group\b', r'\bLayoutRenderingElement::Group\b|\bpicked_group\b'),
+    'choose': (r'\bStep::(?:Choose|Leave)\b', r'\bLayoutRenderingElement::Choose\b'),
+    'if': (r'\bStep::Test\b|\bfn holds\b', r'\bChooseBranch\b|\.branches\b'),
+    'else-if': (r'\bStep::Test\b|\bfn holds\b', r'\bChooseBranch\b|\.branches\b'),
+    'else': (r'\.otherwise\b', r'\botherwise\b'),
+}
+
+# The code that stands for an attribute, where no field is called like it; `element@attribute` is of
+# that element alone, and has a row of its own.
+TOKENS = {
+    'class': (r'\bStyleClass::|\bsettings\.class\b', r'\bStyleClass::|\bsettings\.class\b'),
+    'version': (None, None),
+    'demote-non-dropping-particle': (r'\bparticle_demotion\b|\bParticleDemotion::', None),
+    'page-range-format': (r'\bpage_range_format\b|\bPageRangeFormat::', None),
+    'and': (r'\bNameAnd::', r'\bNameAnd::'),
+    'delimiter-precedes-et-al': (r'\bdelimiter_precedes_et_al\b|\bDelimiterPrecedes::', None),
+    'delimiter-precedes-last': (r'\bdelimiter_precedes_last\b|\bDelimiterPrecedes::', None),
+    'initialize': (r'\.initialize\b', None),
+    'initialize-with': (r'\binitialize_with\b', r'\binitialize_with\b'),
+    'name-as-sort-order': (r'\bname_as_sort_order\b|\bNameAsSortOrder::', None),
+    'name-form': (r'\.form\b.*NameForm|\bNameForm::', r'\bname_form\b'),
+    'name-delimiter': (r'\bname\.delimiter\b|\.name\b.*delimiter|\bname_delimiter\b|\bNameOptions\b', r'\bname_delimiter\b'),
+    'limit-day-ordinals-to-day-1': (r'\blimit_day_ordinals_to_day_1\b|\blimits_day_ordinals\b', None),
+    'disambiguate-add-givenname': (r'\bdisambiguate_add_given_?name\b', r'\bdisambiguate_add_givenname\b'),
+    'givenname-disambiguation-rule': (r'\bgivenname_disambiguation_rule\b|\bDisambiguationRule::', r'\bDisambiguationRule::'),
+    'collapse': (r'\bCollapse::', r'\bCollapse::'),
+    'subsequent-author-substitute-rule': (r'\bSubstituteRule::|\bSubsequentAuthorSubstituteRule::',
+                                          r'\bSubsequentAuthorSubstituteRule::'),
+    'names-min': (r'\bnames_min\b', None),
+    'sort': (r'\bSortDirection::', None),
+    'quotes': (r'\bhas_quotes\b', r'\bquotes\b'),
+    'strip-periods': (r'\bstrips?_periods\b', r'\bstrip_periods\b'),
+    'text-case': (r'\btext_case\b|\bTextCase::', None),
+    'display': (r'\.display\b|\bDisplay::', r'\bdisplay\b'),
+    'prefix': (r'\baffixes\b', r'\bprefix\b'),
+    'suffix': (r'\baffixes\b', r'\baffixes\.suffix\b|\bsuffixed\b'),
+    'plural': (r'\bLabelPlural::|\bis_plural\b', r'\bplural\b'),
+    'date-parts': (r'\bDateParts::', None),
+    'gender': (r'\bGender\b', None),
+    'gender-form': (r'\bgender_form\b', None),
+    'match': (r'\bMatch::', r'\bChooseMatch::'),
+    'disambiguate': (r'\bTest::Disambiguate\b|\bdisambiguates\b', r'\bCondition::Disambiguate\b'),
+    'is-numeric': (r'\bTest::IsNumeric\b|\bfn is_numeric\b', None),
+    'is-uncertain-date': (r'\bTest::IsUncertainDate\b|\bis_uncertain\b', None),
+    'locator': (r'\bTest::Locator\b', None),
+    'position': (r'\bTest::Position\b|\bCitePosition::', r'\bTestPosition::'),
+    'type': (r'\bTest::Type\b', None),
+    'value': (r'\bTextSource::Value\b', r'\bTextTarget::Value\b'),
+    'key@macro': (r'\bSortBy::Macro\b', None),
+    'text@macro': (r'\bOpenMacro\b|\bTextSource::Macro\b', r'\bTextTarget::Macro\b'),
+    'key@variable': (r'\bSortBy::Variable\b', None),
+    'text@variable': (r'\bTextSource::Variable\b', r'\bTextTarget::Standard\b'),
+    'number@variable': (r'\bfn write_number\b', r'\bLayoutRenderingElement::Number\b'),
+    'label@variable': (r'\bfn write_label\b', None),
+    'date@variable': (r'\bfn write_date\b', r'\bLayoutRenderingElement::Date\b'),
+    'names@variable': (r'\.variables\b', r'\bLayoutRenderingElement::Names\b'),
+    'if@variable': (r'\bTest::Variable\b', r'\bCondition::Variable\b'),
+    'else-if@variable': (r'\bTest::Variable\b', r'\bCondition::Variable\b'),
+    'text@term': (r'\bTextSource::Term\b', r'\bTextTarget::Term\b'),
+    'et-al@term': (r'\bEtAlTerm::', None),
+    'term@name': (r'\bTermName\b', r'\bTermTable\b'),
+    'macro@name': (None, r'\bMacroTable\b'),
+    'date-part@name': (r'\bDatePartName::', None),
+    'name-part@name': (r'\bNamePart\b', None),
+    'term@form': (r'\bfind_in_forms\b|\bTermForm::', r'\bTermForm::'),
+    'term@match': (r'\bOrdinalMatch::', None),
+    'text@form': (r'\bVariableForm::|\bown_short_form\b', None),
+    'number@form': (r'\bNumberForm::', None),
+    'label@form': (r'\boptions\.form\b', None),
+    'date@form': (r'\bDateForm\b', None),
+    'date-part@form': (r'\b(?:Day|Month|Year)Form::', None),
+    'name@form': (r'\bNameForm::', r'\bname_form\b'),
+    'layout@delimiter': (r'\.layout\.delimiter\b', r'\blayout\.delimiter\b'),
+    'date@delimiter': (r'\bDateFormat::Own\b|\bDateLayout\b', None),
+    'names@delimiter': (r'\bnames_delimiter\b|\bnames\.delimiter\b', r'\bnames_delimiter\b'),
+    'name@delimiter': (r'\bNameOptions\b', r'\bname_delimiter\b'),
+    'group@delimiter': (r'\bgroup\.delimiter\b', r'\bdelimiter\b'),
+}
+
+# The definitions of what the driver decides in the mode `csl`, and of what the port does.
+DEFINITIONS = {
+    'near-note-distance': 'csl_notes/specs/Notes',
+    'disambiguate-add-names': 'csl_telling/specs/Reaches csl_telling/specs/Told',
+    'disambiguate-add-givenname': 'csl_telling/specs/Reaches csl_telling/specs/Forms',
+    'givenname-disambiguation-rule': 'csl_telling/specs/ByDocument csl_telling/specs/Reaches',
+    'disambiguate-add-year-suffix': 'csl_mentions/specs/Suffixes',
+    'cite-group-delimiter': 'csl_arranging/specs/Order csl_blocks/specs/Blocks',
+    'collapse': 'csl_arranging/specs/Collapsing csl_blocks/specs/Collapsed',
+    'year-suffix-delimiter': 'csl_runs/specs/SuffixStretches',
+    'after-collapse-delimiter': 'csl_blocks/specs/Years csl_runs/specs/NumberRanges',
+    'subsequent-author-substitute': 'csl_authors/specs/Repeated',
+    'subsequent-author-substitute-rule': 'csl_authors/specs/Repeated csl_authors/specs/Substitution',
+    'second-field-align': 'csl_assembly/specs/BibliographyItems',
+    'layout@delimiter': 'csl_assembly/specs/CitationTree',
+    'disambiguate': 'csl_tables/specs/Tables',
+    'collapse=citation-number': 'csl_runs/specs/NumberRanges',
+    'collapse=year': 'csl_blocks/specs/Years',
+    'collapse=year-suffix': 'csl_runs/specs/SuffixStretches',
+    'collapse=year-suffix-ranged': 'csl_runs/specs/SuffixStretches',
+    'position=first': 'csl_notes/specs/Notes',
+    'position=ibid': 'csl_notes/specs/Repeats',
+    'position=ibid-with-locator': 'csl_notes/specs/Repeats',
+    'position=near-note': 'csl_notes/specs/Notes',
+    'position=far-note': 'csl_notes/specs/Notes',
+    'position=subsequent': 'csl_notes/specs/Notes',
+    'givenname-disambiguation-rule=by-cite': 'csl_telling/specs/Reaches',
+    **{'givenname-disambiguation-rule=' + it: 'csl_telling/specs/ByDocument'
+       for it in ('all-names', 'all-names-with-initials', 'primary-name', 'primary-name-with-initials')},
+    **{'subsequent-author-substitute-rule=' + it: 'csl_authors/specs/Substitution'
+       for it in ('complete-all', 'complete-each', 'partial-each', 'partial-first')},
+    'year-suffix': 'csl_mentions/specs/Suffixes',
+    'citation-number': 'csl_driver/specs/CslAnswer',
+    'first-reference-note-number': 'csl_notes/specs/Notes',
+}
+
+# The attributes that name the values of these tables of style_elements, each of these elements.
+TABLE_OF = {
+    'FONT_STYLES': 'font-style', 'FONT_VARIANTS': 'font-variant', 'FONT_WEIGHTS': 'font-weight',
+    'TEXT_DECORATIONS': 'text-decoration', 'VERTICAL_ALIGNS': 'vertical-align', 'DISPLAYS': 'display', 'TEXT_CASES': 'text-case',
+    'VARIABLE_FORMS': 'text@form', 'NUMBER_FORMS': 'number@form', 'LABEL_PLURALS': 'plural', 'DATE_FORMS': 'date@form',
+    'DATE_PARTS': 'date-parts', 'DAY_FORMS': 'date-part@form', 'MONTH_FORMS': 'date-part@form', 'YEAR_FORMS': 'date-part@form',
+    'NAME_ANDS': 'and', 'DELIMITER_PRECEDES': 'delimiter-precedes-last', 'NAME_FORMS': 'name@form',
+    'NAME_ORDERS': 'name-as-sort-order', 'ET_AL_TERMS': 'et-al@term', 'MATCHES': 'match', 'POSITIONS': 'position',
+    'SORT_DIRECTIONS': 'sort', 'COLLAPSES': 'collapse', 'GIVEN_NAME_RULES': 'givenname-disambiguation-rule',
+    'SECOND_FIELD_ALIGNS': 'second-field-align', 'SUBSTITUTE_RULES': 'subsequent-author-substitute-rule', 'CLASSES': 'class',
+    'PARTICLE_DEMOTIONS': 'demote-non-dropping-particle', 'PAGE_RANGE_FORMATS': 'page-range-format',
+}
+# What else the values of a table are of.
+OF = {'DAY_FORMS': ', a day', 'MONTH_FORMS': ', a month', 'YEAR_FORMS': ', a year',
+      'DELIMITER_PRECEDES': ', `delimiter-precedes-et-al`'}
+# Values of these tables say what a style is, and change nothing that is written.
+ONLY_READ = ('LINK_RELATIONS', 'CITATION_FORMATS', 'FIELDS')
+
+# Where variables and terms are written that no code names.
+ANY = {'text': 'cite_walk::texts', 'number': 'cite_walk::numbers', 'date': 'cite_walk::dates', 'name': 'cite_walk::names'}
+ANY_IN_PORT = {'text': 'csl_picking::variables', 'number': 'csl_picking::variables', 'date': 'csl_picking::variables',
+               'name': 'csl_picking::names'}
+
+
+@functools.lru_cache(None)
+def text_of(path):
+    with open(f'{ROOT}/{path}', encoding='utf-8') as file:
+        return file.read()
+
+
+@functools.lru_cache(None)
+def code_of(crate):
+    """The code of each module of a crate, without comments, imports and contracts, by its name."""
+    found = {}
+    for path in sorted(glob.glob(f'{ROOT}/crates/{crate}/src/*.rt')):
+        module = os.path.basename(path)[:-len('.rt')]
+        code = re.sub(r'//.*', '', text_of(os.path.relpath(path, ROOT)))
+        code = re.sub(r'^(?:ghost )?(?:pub )?use [^;]*;', '', code, flags=re.MULTILINE)
+        code = re.sub(r'^\s*(?:requires|ensures|invariant)\b.*', '', code, flags=re.MULTILINE)
+        found[f'{crate}::{module}' if module not in ('lib', 'main') else crate] = code
+    return found
+
+
+@functools.lru_cache(None)
+def modules(crates, pattern):
+    """The modules of crates whose code has what a pattern matches; those that have it most often."""
+    if pattern is None:
+        return []
+    counts = [(len(re.findall(pattern, code)), name) for crate in crates for name, code in code_of(crate).items()]
+    found = sorted((it for it in counts if it[0]), key=lambda it: (-it[0], it[1]))[:MOST]
+    return [name for _, name in found]
+
+
+def in_product(pattern):
+    """Those of the product. That a style is copied for the driver counts where nothing else does."""
+    found = modules(tuple(PRODUCT), pattern)
+    return [it for it in found if it != 'cite_host::driven'] or found
+
+
+def in_writer(pattern):
+    """Those of the writer of style files."""
+    return modules(tuple(it for it in PRODUCT if it.startswith('cite_')), pattern)
+
+
+def in_port(pattern):
+    return modules(tuple(PORT), pattern)
+
+
+def rows_of(path, table):
+    """The rows of a table of names: each name, and the variant that stands for it."""
+    found = re.search(r'pub const %s: [^=]*= &\[(.*?)\];' % table, text_of(path), re.DOTALL)
+    return re.findall(r'\(\s*"([^"]+)",\s*(\w+::\w+)[^)]*\)', found.group(1))
+
+
+def shapes():
+    """Each element with its attributes and the elements in it, as style_elements has them."""
+    text = text_of('crates/style_elements/src/shape.rt')
+    lists = dict(re.findall(r'^const (\w+): &\[&str\] = &\[(.*?)\];', text, re.MULTILINE | re.DOTALL))
+    found = {}
+    for body in re.findall(r'^pub const \w+: Shape = Shape \{(.*?)^\};', text, re.MULTILINE | re.DOTALL):
+        name = re.search(r'name: "([^"]+)"', body).group(1)
+        attributes = re.search(r'attributes: &\[(.*?)\],\n    children', body, re.DOTALL).group(1)
+        names = re.findall(r'"([^"]+)"', attributes)
+        for group in re.findall(r'\b[A-Z_]+\b', attributes):
+            names += re.findall(r'"([^"]+)"', lists[group])
+        found.setdefault(name, [])
+        found[name] += [it for it in names if it not in found[name]]
+    return found
+
+
+def parts_of_info():
+    """The elements of an `info`."""
+    found = re.search(r'const PARTS: &\[&str\] = &\[(.*?)\];', text_of('crates/style_reader/src/info.rt'), re.DOTALL)
+    return re.findall(r'"([^"]+)"', found.group(1))
+
+
+def shown(items):
+    return ', '.join('`%s`' % it for it in items) or '–'
+
+
+def case_with(pattern, word):
+    """A case of tests/writer whose style has this: if there is one, one whose rule names it; of several the shortest."""
+    found = [it for it in CASES if re.search(pattern, it.style)]
+    return min(found, key=lambda it: (not re.search(r'\b%s\b' % re.escape(word), it.rule), len(it.style))).name if found else None
+
+
+def held_by(key, pattern, word):
+    """What a name's rule is: its definitions, or else a case that holds it."""
+    if key in DEFINITIONS:
+        return shown(it + '.antt' for it in DEFINITIONS[key].split())
+    case = case_with(pattern, word)
+    if case:
+        return '“%s”' % case
+    for path in sorted(glob.glob(f'{ROOT}/tests/styles/documents/*') + glob.glob(f'{ROOT}/examples/styles/*.csl')):
+        if re.search(pattern, text_of(os.path.relpath(path, ROOT))):
+            return '`%s`' % os.path.relpath(path, ROOT)
+    return '–'
+
+
+def default_tokens(attribute):
+    field = r'\b%s\b' % attribute.replace('-', '_')
+    return field, field
+
+
+def readers(attribute, elements):
+    """The modules of style_reader that read an attribute; those that check one of its elements, where there are such."""
+    named = r'"%s"' % re.escape(attribute)
+    shapes_of = '|'.join(r'\b%s\b' % it.upper().replace('-', '_') for it in elements)
+    found = [name for name, code in sorted(code_of('style_reader').items()) if re.search(named, code)]
+    checking = [it for it in found if re.search(shapes_of, code_of('style_reader')[it])]
+    return (checking or found)[:MOST]
+
+
+def element_rows():
+    yield '| Element | Read by | Written by | Held by | In the port |'
+    for name in sorted(ELEMENTS):
+        product, port = ELEMENTS[name]
+        shape = name.upper().replace('-', '_')
+        read = modules(('style_reader',), r'\b%s\b|"%s"' % (shape, name))
+        yield '| `%s` | %s | %s | %s | %s |' % (name, shown(read), shown(in_writer(product)), held_by('', r'<%s\b' % name, name),
+                                               shown(in_port(port)))
+
+
+def attribute_rows():
+    found = shapes()
+    rows = {}
+    for element, attributes in found.items():
+        for attribute in attributes:
+            own = f'{element}@{attribute}'
+            rows.setdefault(own if own in TOKENS else attribute, []).append(element)
+    yield '| Attribute | Of | Read by | Honoured by | Held by | In the port |'
+    for key, elements in sorted(rows.items(), key=lambda it: (it[0].split('@')[-1], it[1])):
+        attribute = key.split('@')[-1]
+        product, port = TOKENS.get(key) or default_tokens(attribute)
+        of = 'any' if len(elements) > 7 else shown(elements)
+        tag = r'<(?:%s)\b[^>]*\s%s=' % ('|'.join(elements), attribute)
+        yield '| `%s` | %s | %s | %s | %s | %s |' % (attribute, of, shown(readers(attribute, elements)), shown(in_product(product)),
+                                                    held_by(key, tag, attribute), shown(in_port(port)))
+
+
+def port_variants(value, kind):
+    """The variant that a document of the port names so, of an enum that is called like this."""
+    found = re.findall(r'\(\s*"%s",\s*((\w+)::\w+)' % re.escape(value), text_of('crates/json_values/src/tables.rt'))
+    alike = {'GivenNameRule': 'DisambiguationRule', 'SubstituteRule': 'SubsequentAuthorSubstituteRule', 'Match': 'ChooseMatch',
+             'CitePosition': 'TestPosition'}
+    return [name for name, enum in found if enum == alike.get(kind, kind)]
+
+
+def value_rows():
+    text = text_of('crates/style_elements/src/tables.rt')
+    yield '| Value | Of | Honoured by | Held by | In the port |'
+    for table in re.findall(r'^pub const (\w+):', text, re.MULTILINE):
+        if table in ONLY_READ:
+            continue
+        key = TABLE_OF[table]
+        attribute = key.split('@')[-1]
+        tag = r'%s\b%s="(?:[^"]* )?%%s[ "]' % (r'<%s\b[^>]*' % key.split('@')[0] if '@' in key else '', attribute)
+        of = '`%s`' % attribute + (' of `%s`' % key.split('@')[0] if '@' in key else '') + OF.get(table, '')
+        for value, variant in rows_of('crates/style_elements/src/tables.rt', table):
+            port = port_variants(value, variant.split('::')[0])
+            of_driver = [it for it in port if it.split('::')[1] == variant.split('::')[1]]
+            product = '|'.join(r'\b%s\b' % it for it in {variant, *of_driver})
+            yield '| `%s` | %s | %s | %s | %s |' % (
+                value, of, shown(in_product(product) or in_product((TOKENS.get(key) or default_tokens(attribute))[0])),
+                held_by(f'{attribute}={value}', tag % value, value),
+                shown(in_port('|'.join(r'\b%s\b' % it for it in port) or None)))
+
+
+VARIABLES = [('text', 'TEXT_VARIABLES', 'STANDARD_VARIABLES'), ('number', 'NUMBER_VARIABLES', 'NUMBER_VARIABLES'),
+             ('date', 'DATE_VARIABLES', 'DATE_VARIABLES'), ('name', 'NAME_VARIABLES', 'NAME_VARIABLES')]
+
+
+def variable_rows():
+    yield '| Variable | Kind | Written by | Code of its own | Held by | In the port |'
+    for kind, table, of_port in VARIABLES:
+        port = dict(rows_of('crates/json_values/src/tables.rt', of_port))
+        for name, variant in rows_of('crates/csl_vocabulary/src/variable.rt', table):
+            known = port.get(name) or port.get(name.lower())
+            there = in_port(r'\b%s\b' % known) if known else []
+            pattern = r'\bvariable="(?:[^"]* )?%s[ "]' % re.escape(name)
+            yield '| `%s` | %s | `%s` | %s | %s | %s |' % (
+                name, kind, ANY[kind], shown(in_product(r'\b%s\b' % variant)), held_by(name, pattern, name),
+                shown(there or ([ANY_IN_PORT[kind]] if known else [])))
+
+
+def kinds_of_terms():
+    """For each term what it names: a variable, a type, a locator, or nothing else."""
+    kinds = {}
+    tables = [('variable.rt', 'NUMBER_VARIABLES', 'number'), ('variable.rt', 'NAME_VARIABLES', 'names'),
+              ('item_type.rt', 'ITEM_TYPES', 'item type'), ('locator.rt', 'LOCATOR_TYPES', 'locator')]
+    for file, table, kind in tables:
+        for name, _ in rows_of('crates/csl_vocabulary/src/' + file, table):
+            kinds.setdefault(name, []).append(kind)
+    return kinds
+
+
+def term_rows():
+    kinds = kinds_of_terms()
+    english = text_of('crates/english_locale/src/lib.rt') + ''.join(
+        text_of(os.path.relpath(it, ROOT)) for it in sorted(glob.glob(f'{ROOT}/crates/english_locale/src/*.rt')))
+    port = {**dict(rows_of('crates/json_values/src/tables.rt', 'LOCATORS')), **dict(rows_of('crates/json_values/src/tables.rt', 'OTHER_TERMS'))}
+    labels = {'number': 'cite_walk::numbers', 'locator': 'cite_walk::numbers', 'names': 'cite_walk::names'}
+    yield '| Term | Names | Written by | In English | In the port |'
+    for name, variant in rows_of('crates/csl_vocabulary/src/term.rt', 'PLAIN_TERMS'):
+        own = in_product(r'\b%s\b' % variant)
+        label = sorted({labels[it] for it in kinds.get(name, []) if it in labels})
+        written = [*own, *(it for it in label if it not in own)] or ['cite_walk::texts']
+        known = port.get(name.replace(' ', '-'))
+        is_english = re.search(r'name=\\?"%s\\?"' % re.escape(name), english)
+        there = (in_port(r'\b%s\b' % known) or ['csl_lookup::lookup']) if known else []
+        yield '| `%s` | %s | %s | %s | %s |' % (name, ', '.join(kinds.get(name, [])) or '–', shown(written), 'yes' if is_english else 'no',
+                                               shown(there))
+    yield '| `ordinal-00` to `ordinal-99` | – | %s | %s | – |' % (shown(in_product(r'\bTermName::Ordinal\b')), 'yes')
+    yield '| `long-ordinal-01` to `long-ordinal-10` | – | %s | %s | – |' % (shown(in_product(r'\bTermName::LongOrdinal\b')), 'yes')
+
+
+HEAD = '''# The map
+
+Each name of CSL 1.0.2, and where it is honoured. `python3 tests/docs/map.py --write` makes this page
+from the crates, and the tests hold it to be what that makes.
+
+Two writers stand under one driver (ARCHITECTURE.md). The *product* writes style files, with the
+rules of the mode `csl`; the *port* writes layouts in JSON, in the modes `three` and `full`. Module
+`c::m` is `crates/c/src/m.rt`, and `c/specs/D.antt` is in `crates/`. A row names at most three
+modules, those whose code has the name most often. *Held by* is the definition that the driver keeps
+to, or a case of `tests/writer/cases.py` in quotes, or a file that has the name. A dash means that
+there is none: a name that the port lacks is no part of its format.
+'''
+
+INFO = '''## Info
+
+%s
+
+`style_reader::info` reads `title`, `title-short`, `id`, `link`, `category`,
+`summary` and `updated`, and ignores the others; `gamhilon check` prints them, and a dependent style
+finds its parent by them. They change nothing that is written. The same is so of `href`, `rel` and
+`xml:lang` of a `link`, of `citation-format` and `field` of a `category`, and of `xml:lang` of
+`style`; that of a `locale` is its language (`style_reader::style`, `style_reader::locale`).
+'''
+
+
+VARIABLES_HEAD = '''Styles of `tests/csl_names.py` have each of them in `text`, `number`, `label`, `date`, `names` and `choose`, and
+`tests/styles/run.py` holds what is read of them. *Held by* has what holds more than that.
+'''
+
+
+def wrapped(text):
+    return textwrap.fill(text, 100, break_on_hyphens=False)
+
+
+def table(rows):
+    rows = list(rows)
+    return '\n'.join([rows[0], '|' + '---|' * (rows[0].count('|') - 1), *rows[1:]]) + '\n'
+
+
+def page():
+    parts = [HEAD, '## Elements\n', table(element_rows()), INFO % wrapped('An `info` has %s.' % ', '.join('`%s`' % it for it in parts_of_info())),
+             '## Attributes\n', table(attribute_rows()), '## Values of attributes\n', table(value_rows()),
+             '## Variables\n\n' + VARIABLES_HEAD, table(variable_rows()),
+             '## Terms, item types and locators\n\nEach of these is a term, which `text` writes by its attribute `term` '
+             '(`cite_walk::texts`), and which\n`cite_locale::terms` looks up. What names a variable or a locator also stands in '
+             'its label. Item types\nand locators are what `type` and `locator` test (`cite_walk::conditions`).\n',
+             table(term_rows())]
+    return '\n'.join(parts)
+
+
+def main():
+    if sys.argv[1:] == ['--write']:
+        with open(f'{ROOT}/{PAGE}', 'w', encoding='utf-8') as file:
+            file.write(page())
+    else:
+        sys.stdout.write(page())
+    return 0
+
+
+if __name__ == '__main__':
+    sys.exit(main())
