@@ -4,8 +4,8 @@ use cite_pieces::pieces::Pieces;
 use csl_texts::quotes::QuoteMarks;
 use std::alloc::{AllocError, Global};
 use write_markup::items::ItemRuns;
-use write_markup::latex::latex_item;
-use write_markup::markdown::markdown_item;
+use write_markup::latex::{latex_entry, latex_item};
+use write_markup::markdown::{markdown_entry, markdown_item};
 
 /// An item of a bibliography in a form, on a line, with its first field in front. In Markdown and
 /// LaTeX URLs and DOIs lead there.
@@ -31,6 +31,28 @@ pub fn written_item(
             let item = item_runs(alloc, first_field, content, marks)?;
             latex_item(alloc, &item)
         }
+    }
+}
+
+/// An item of a bibliography, of this text, as a block to which cites with this target lead: a
+/// `div` of HTML, a paragraph of Markdown or LaTeX, and the text alone where the form is text. Where
+/// `is_hanging`, the lines of a paragraph of LaTeX are indented, but for the first.
+///
+/// # Errors
+///
+/// Where memory is refused.
+pub fn written_block(
+    alloc: Global,
+    form: Form,
+    target: &str,
+    text: &str,
+    is_hanging: bool,
+) -> Result<String, AllocError> {
+    match form {
+        Form::Text => String::from_str(alloc, text),
+        Form::Html => format!(in alloc; "<div id=\"{target}\" class=\"csl-entry\">{text}</div>"),
+        Form::Markdown => markdown_entry(alloc, target, text),
+        Form::Latex => latex_entry(alloc, target, text, is_hanging),
     }
 }
 

@@ -45,7 +45,7 @@ pub fn latex_item(alloc: Global, item: &ItemRuns) -> Result<String, AllocError> 
     format!(in alloc; "{field}\\quad {content}")
 }
 
-/// A paragraph of LaTeX, which is the item of a bibliography to which cites with this target lead.
+/// An item of a bibliography, of this text, to which cites with this target lead: a paragraph.
 /// Where `is_hanging`, its lines are indented, but for the first.
 ///
 /// # Errors
@@ -62,7 +62,7 @@ pub fn latex_entry(
     } else {
         ""
     };
-    format!(in alloc; "\\noindent {indent}\\hypertarget{{{target}}}{{}}{text}\\par\n")
+    format!(in alloc; "\\noindent {indent}\\hypertarget{{{target}}}{{}}{text}\\par")
 }
 
 /// Adds a text with no ligature of its first letter and the last one of the text before it.

@@ -42,14 +42,14 @@ pub fn markdown_item(alloc: Global, item: &ItemRuns) -> Result<String, AllocErro
     format!(in alloc; "{field} {content}")
 }
 
-/// A paragraph of Markdown, which is the item of a bibliography to which cites with this target
-/// lead: a `div` of the class `csl-entry`.
+/// An item of a bibliography, of this text, to which cites with this target lead: a paragraph in a
+/// `div` of the class `csl-entry`.
 ///
 /// # Errors
 ///
 /// Where memory is refused.
 pub fn markdown_entry(alloc: Global, target: &str, text: &str) -> Result<String, AllocError> {
-    format!(in alloc; "<div id=\"{target}\" class=\"csl-entry\">\n\n{text}\n\n</div>\n")
+    format!(in alloc; "<div id=\"{target}\" class=\"csl-entry\">\n\n{text}\n\n</div>")
 }
 
 /// The first letter of what is written behind the run at a place.
