@@ -10,6 +10,7 @@ use csl_texts::quotes::QuoteMarks;
 use std::alloc::{AllocError, Global};
 use write_markup::latex::latex;
 use write_markup::markdown::markdown;
+use write_markup::runs::Run;
 use write_markup::trees::runs_of;
 
 /// A form of what is written.
@@ -41,14 +42,24 @@ pub fn written(
         Form::Text => plain_text(alloc, pieces, marks),
         Form::Html => html(alloc, pieces, marks),
         Form::Markdown => {
-            let tree = shown_tree(alloc, pieces, marks)?;
-            markdown(alloc, &runs_of(alloc, &tree, targets)?)
+            let runs = shown_runs(alloc, pieces, targets, marks)?;
+            markdown(alloc, &runs)
         }
         Form::Latex => {
-            let tree = shown_tree(alloc, pieces, marks)?;
-            latex(alloc, &runs_of(alloc, &tree, targets)?)
+            let runs = shown_runs(alloc, pieces, targets, marks)?;
+            latex(alloc, &runs)
         }
     }
+}
+
+fn shown_runs(
+    alloc: Global,
+    pieces: &Pieces,
+    targets: &[String],
+    marks: QuoteMarks<'_>,
+) -> Result<Vec<Run>, AllocError> {
+    let tree = shown_tree(alloc, pieces, marks)?;
+    runs_of(alloc, &tree, targets)
 }
 
 /// The tree of a stream, with quotation marks as text, whose texts are joined where they have the
