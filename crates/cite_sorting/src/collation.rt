@@ -140,7 +140,7 @@ fn letter_in(letters: &[OwnLetter], c: char) -> Option<&'static str> {
 }
 
 /// Whether a letter stands for a mark of a transliteration, as the prime or the okina, which is
-/// passed over as punctuation is.
+/// ignored as punctuation is.
 fn is_mark(c: char) -> bool {
     matches!(c, '\u{2b9}'..='\u{2bf}')
 }
