@@ -1,5 +1,7 @@
 //! A style in use.
 use crate::programs::{BibliographyProgram, Programs};
+use cite_limits::budget::Budget;
+use cite_limits::error::StylePlace;
 use cite_locale::chain::LocaleChain;
 use cite_sorting::keys::KeyScene;
 use cite_walk::abbreviations::Abbreviations;
@@ -14,6 +16,8 @@ pub(crate) struct Setting<'s> {
     pub programs: &'s Programs<'s>,
     /// Short forms of texts, where the document brings some.
     pub abbreviations: Option<&'s Abbreviations>,
+    /// What the document may take.
+    pub budget: &'s Budget,
 }
 
 impl<'s> Setting<'s> {
@@ -32,6 +36,7 @@ impl<'s> Setting<'s> {
             kind: SceneKind::Cite,
             adds_year_suffix: self.programs.adds_year_suffix,
             abbreviations: self.abbreviations,
+            budget: self.budget,
         }
     }
 
@@ -45,6 +50,7 @@ impl<'s> Setting<'s> {
             kind: SceneKind::Item,
             adds_year_suffix: self.programs.adds_year_suffix,
             abbreviations: self.abbreviations,
+            budget: self.budget,
         }
     }
 
@@ -55,6 +61,8 @@ impl<'s> Setting<'s> {
             locale: self.locale,
             names: &self.style.citation.names,
             abbreviations: self.abbreviations,
+            budget: self.budget,
+            place: StylePlace::Citation,
         }
     }
 
@@ -65,6 +73,8 @@ impl<'s> Setting<'s> {
             locale: self.locale,
             names: &bibliography.section.names,
             abbreviations: self.abbreviations,
+            budget: self.budget,
+            place: StylePlace::Bibliography,
         }
     }
 }

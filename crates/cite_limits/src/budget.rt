@@ -20,7 +20,7 @@ const FIXED_PARTS: usize = 40;
 const PARTS_OF_ONE: usize = 2;
 
 /// For how many of its names an item has one more part.
-const NAMES_OF_PART: usize = 64;
+const NAMES_OF_PART: usize = 128;
 
 /// What the words of locale files take at most, as costs count them.
 const USUAL_WORDS: usize = 32;
@@ -107,13 +107,18 @@ impl Budget {
     }
 }
 
-/// How many parts a document has for an item.
+/// How many parts a document has for an item, and for each cite of it.
 pub fn parts_of_item(reference: &Reference) -> usize {
+    (names_of_item(reference) / NAMES_OF_PART).saturating_add(1)
+}
+
+/// How many names an item has.
+pub fn names_of_item(reference: &Reference) -> usize {
     let mut names = 0usize;
     for (_, persons) in &reference.names {
         names = names.saturating_add(persons.len());
     }
-    (names / NAMES_OF_PART).saturating_add(1)
+    names
 }
 
 /// The length of the longest words that these locales have: of a term, or around the parts of a

@@ -6,5 +6,6 @@ pub mod budget;
 pub mod cost;
 pub mod error;
 pub mod paths;
+pub mod sections;
 pub mod sizes;
 pub mod steps;
