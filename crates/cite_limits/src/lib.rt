@@ -6,6 +6,7 @@ pub mod budget;
 pub mod cost;
 pub mod error;
 pub mod paths;
+pub mod places;
 pub mod sections;
 pub mod sizes;
 pub mod steps;
