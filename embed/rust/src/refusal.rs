@@ -170,11 +170,17 @@ mod tests {
 
     #[test]
     fn what_exceeds_limits_has_its_status() {
-        for (status, refusal) in [(7, Refusal::TooDeep), (8, Refusal::TooManyElements)] {
+        for (status, refusal) in [
+            (7, Refusal::TooDeep),
+            (8, Refusal::TooManyElements),
+            (10, Refusal::LimitExceeded),
+        ] {
             assert_eq!(Refusal::of(status), refusal);
             assert_eq!(refusal.status(), status);
         }
         assert_eq!(Refusal::TooDeep.to_string(), "the elements of a layout nest too deep");
         assert_eq!(Refusal::TooManyElements.to_string(), "a layout has too many elements");
+        let told = "the style takes more steps or writes more than it may";
+        assert_eq!(Refusal::LimitExceeded.to_string(), told);
     }
 }

@@ -37,12 +37,18 @@ class Document:
         """The answer, with what is odd unless that isn't asked for. Raises TextRefused where a part
         of the document is wrong; StyleLimitExceeded, NumberOverflow or OutOfMemory; and
         LibraryMissing."""
+        try:
+            return cite_texts(self._texts(), warns)
+        except StyleLimitExceeded as refusal:
+            raise self._excess(refusal) from None
+
+    def _texts(self) -> CiteTexts:
         citations = ', '.join([citation.json for citation in self.citations])
-        return cite_texts(CiteTexts(
+        return CiteTexts(
             style=bytes_of(self.style.text), items=json_of(self.entries),
             citations=f'[{citations}]'.encode('utf-8', 'replace'),
             locales=json_of([locale.text for locale in self.locales]),
-            options=json_of(self._options())), warns)
+            options=json_of(self._options()))
 
     def _options(self) -> Dict[str, Any]:
         options: Dict[str, Any] = {'locale': self.language}
@@ -80,7 +86,7 @@ class Document:
             return AbbreviationsRefused(self.abbreviations.file, None, None, _at_part(fault))
         return StyleRefused(self._file(fault.file), fault.line, fault.column, fault.message)
 
-    def excess(self, refusal: StyleLimitExceeded) -> StyleLimitExceeded:
+    def _excess(self, refusal: StyleLimitExceeded) -> StyleLimitExceeded:
         """What the style exceeds, with the name of its file."""
         fault = refusal.fault
         return StyleLimitExceeded(fault and replace(fault, file=self._file(fault.file)))

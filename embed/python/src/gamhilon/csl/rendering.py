@@ -8,7 +8,7 @@ from .._deprecated import deprecated
 from .._limits import style_limits
 from .._nearest import meant
 from ..answer import Answer, Item, Node, Tree, shows_nothing
-from ..errors import StyleLimitExceeded, TextRefused
+from ..errors import TextRefused
 from .abbreviations import Abbreviations, AbbreviationsLike, abbreviations_of
 from .calling import Document, steps_of
 from .cites import Citation, CitationLike, CitationReader, Cite
@@ -242,8 +242,6 @@ def _answered(document: Document, warnings: List[Warned],
     while True:
         try:
             return document, document.answer(warns)
-        except StyleLimitExceeded as refusal:
-            raise document.excess(refusal) from None
         except TextRefused as refusal:
             document = _mended(document, refusal, warnings)
 
