@@ -1,0 +1,45 @@
+//! Alphabets of languages, as the Unicode CLDR project has them in its collations (version 42, of
+//! ICU 72).
+use crate::letters::OwnLetter;
+use crate::tables::LANGUAGES;
+
+/// How a language sorts letters.
+#[derive(Clone, Copy)]
+pub struct Alphabet {
+    /// The letters that it sorts otherwise than Unicode's root collation.
+    pub letters: &'static [OwnLetter],
+    /// Whether `I` is the capital of `ı`, and `İ` that of `i`.
+    pub has_dotless_i: bool,
+    /// Whether capitals stand before small letters, where texts are equal but for case.
+    pub has_capitals_first: bool,
+}
+
+impl Alphabet {
+    /// The alphabet of the language of a tag, as `sv-SE` or `sv_se`; the letters of Unicode's root
+    /// collation where the language is not known.
+    pub fn of_tag(tag: &str) -> Alphabet {
+        let language = primary_language(tag);
+        for (known, letters) in LANGUAGES {
+            if known.eq_ignore_ascii_case(language) {
+                return Alphabet {
+                    letters: *letters,
+                    has_dotless_i: letters.iter().any(|letter| letter.0 == "ı"),
+                    has_capitals_first: *known == "da",
+                };
+            }
+        }
+        Alphabet {
+            letters: &[],
+            has_dotless_i: false,
+            has_capitals_first: false,
+        }
+    }
+}
+
+/// What a tag begins with: `sv` of `sv-SE`.
+fn primary_language(tag: &str) -> &str {
+    tag.trim_start()
+        .split(|c: char| !c.is_ascii_alphanumeric())
+        .next()
+        .unwrap_or("")
+}
