@@ -1,4 +1,7 @@
 //! Letters of one or more signs, and as what they are sorted.
+ghost use Rattle.std.specs.Prelude.{◌≡◌, ◌<◌, ◌≤◌, IfSome, All, Contains};
+ghost use Rattle.cite_collation.specs.Letters.{taken, taken_by};
+
 use std::alloc::{AllocError, Global};
 
 /// What follows a letter for one that stands directly behind it in an alphabet: it is behind all
@@ -50,16 +53,30 @@ pub fn with_own_letters(
 }
 
 /// The longest of these letters that a text begins with.
-fn longest_letter(letters: &[OwnLetter], text: &str) -> Option<OwnLetter> {
-    let mut longest: Option<OwnLetter> = None;
+fn longest_letter(letters: &[OwnLetter], text: &str) -> Option<OwnLetter>
+    ensures found { IfSome result (λ letter. 0 < taken text.now letter) }
+    ensures among { IfSome result (λ letter. Contains letters.now letter) }
+    ensures longest { All (λ other. taken text.now other ≤ taken_by text.now result) letters.now }
+{
+    let mut longest = None;
+    let mut most = 0;
     for letter in letters {
-        let is_longer = match longest {
-            Some(other) => other.0.len() < letter.0.len(),
-            None => true,
-        };
-        if is_longer && text.starts_with(letter.0) {
+        let length = length_at_start(*letter, text);
+        if most < length {
             longest = Some(*letter);
+            most = length;
         }
     }
     longest
+}
+
+/// How many bytes of a text the signs of a letter are that it begins with: none if it doesn't.
+fn length_at_start(letter: OwnLetter, text: &str) -> usize
+    ensures { result ≡ taken text.now letter }
+{
+    if text.as_bytes().starts_with(letter.0.as_bytes()) {
+        letter.0.len()
+    } else {
+        0
+    }
 }

@@ -1,5 +1,6 @@
 //! A style in use.
 use crate::programs::{BibliographyProgram, Programs};
+use cite_collation::alphabets::Alphabet;
 use cite_locale::chain::LocaleChain;
 use cite_sorting::keys::KeyScene;
 use cite_walk::abbreviations::Abbreviations;
@@ -11,6 +12,7 @@ use style_file::style::CslStyle;
 pub(crate) struct Setting<'s> {
     pub style: &'s CslStyle,
     pub locale: &'s LocaleChain<'s>,
+    pub alphabet: Alphabet,
     pub programs: &'s Programs<'s>,
     /// Short forms of texts, where the document brings some.
     pub abbreviations: Option<&'s Abbreviations>,
@@ -53,6 +55,7 @@ impl<'s> Setting<'s> {
         KeyScene {
             style: self.style,
             locale: self.locale,
+            alphabet: self.alphabet,
             names: &self.style.citation.names,
             abbreviations: self.abbreviations,
         }
@@ -63,6 +66,7 @@ impl<'s> Setting<'s> {
         KeyScene {
             style: self.style,
             locale: self.locale,
+            alphabet: self.alphabet,
             names: &bibliography.section.names,
             abbreviations: self.abbreviations,
         }
