@@ -12,7 +12,7 @@ use std::alloc::{AllocError, Global};
 use style_file::locale::LocaleFile;
 use style_file::style::CslStyle;
 
-/// The language of a document where nothing tells one.
+/// The language of a document that names none.
 const LANGUAGE: &str = "en-US";
 
 /// What the texts of a call say.

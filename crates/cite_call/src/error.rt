@@ -19,7 +19,7 @@ pub enum CallError {
 }
 
 impl CallError {
-    /// The status that tells it: 2, 4 or 5.
+    /// Its status: 2, 4 or 5.
     pub fn status(&self) -> u8
         ensures { result ≡ status self.now }
     {

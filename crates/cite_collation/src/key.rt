@@ -134,7 +134,7 @@ fn small_letters(
 }
 
 /// Whether a letter stands for a mark of a transliteration, as the prime or the okina, which is
-/// passed over as punctuation is.
+/// ignored as punctuation is.
 fn is_mark(c: char) -> bool {
     matches!(c, '\u{2b9}'..='\u{2bf}')
 }

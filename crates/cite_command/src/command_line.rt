@@ -1,4 +1,4 @@
-//! The command line, as the crate `clap` is told of it.
+//! The command line, as a value of the crate `clap`.
 use crate::usage::{ABOUT, DOCUMENT_NOTES, PROGRAM_NOTES, STYLES_NOTES, VERSION, WRITING_NOTES};
 use clap::builder::ValueParser;
 use clap::{Arg, ArgAction, Command};
@@ -205,7 +205,7 @@ fn css<'a>(alloc: Global) -> Result<Command<'a>, AllocError> {
 
 // ---- options
 
-/// The option of the form of what is written, of which these are the names.
+/// The option of the form of what is written, with the names of the forms.
 fn form<'a>(alloc: Global, formats: &'a [&'a str]) -> Arg<'a> {
     valued(alloc, "to", "FORMAT", "The form of what is written (text)").value_parser(
         ValueParser::Names(formats),

@@ -96,8 +96,8 @@ impl<'d> Document<'d> {
         rendered_in(alloc, &style, items, writer)
     }
 
-    /// Whether the numbers of notes are told to the driver: the style asks where cites stand, and
-    /// it is one of notes, or citations tell theirs.
+    /// Whether the driver gets the numbers of notes: the style asks where cites stand, and it is
+    /// one of notes, or citations have numbers.
     fn has_notes(&self, setting: Setting<'_>) -> bool {
         setting.programs.asked_place.cites
             && (self.style.class == StyleClass::Note

@@ -1,4 +1,4 @@
-//! Cites of which the same is written: that is done once.
+//! Cites that are written alike: that is done once.
 use crate::writer::{Asked, TaskWriter};
 use cite_trees::trees::shown_of;
 use cite_walk::cite::Repetition;
@@ -17,14 +17,14 @@ pub(crate) struct PlainCite {
     number: usize,
     standing: CiteStanding,
     repetition: Option<Repetition>,
-    /// By what means its item is told from others.
+    /// By what means its item is disambiguated.
     means: Means,
     verdict: Option<CollapseVerdict>,
     /// Whether it begins a note.
     begins_note: bool,
 }
 
-/// Where a cite stands behind others, as far as its style asks.
+/// Where a cite follows others, as far as its style asks.
 #[derive(Clone, Copy, PartialEq, Eq, Hash)]
 struct CiteStanding {
     is_first: bool,

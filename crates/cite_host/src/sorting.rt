@@ -70,8 +70,8 @@ fn has_locator(citation: &Citation) -> bool {
     citation.cites.iter().any(|cite| cite.locator.is_some())
 }
 
-/// The ranks of items by the keys of citations, at the places of the items. Those of which all keys
-/// are equal have one rank. An item that is in no citation that is sorted has none of its own.
+/// The ranks of items by the keys of citations, at the places of the items. Those whose keys are
+/// all equal have one rank. An item that is in no citation that is sorted has none of its own.
 fn item_ranks(
     alloc: Global,
     setting: Setting<'_>,

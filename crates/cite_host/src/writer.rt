@@ -99,7 +99,7 @@ impl<'s, 'i, 'd> TaskWriter<'s, 'i, 'd> {
         }
     }
 
-    /// Writes a cite; a plain one of which the same was written isn't written again.
+    /// Writes a cite; a plain one that was written alike isn't written again.
     fn write_cite(&mut self, asked: Asked<'_>) -> Result<driver::Cite, AllocError> {
         let Some(plain) = self.plain_cite(asked)? else {
             return self.write_anew(asked);
@@ -210,8 +210,8 @@ impl<'s, 'i, 'd> TaskWriter<'s, 'i, 'd> {
         self.told(listed, TextFormatting::NORMAL)
     }
 
-    /// An item in its layout, of which so many pieces are the first field; with the affixes of the
-    /// layout where it has no other.
+    /// An item in its layout, whose first field is so many pieces; with the affixes of the layout
+    /// where it has no other field.
     fn with_first_field(
         &self,
         layout: &Layout,
@@ -249,7 +249,7 @@ impl<'s, 'i, 'd> TaskWriter<'s, 'i, 'd> {
         with_field_marks(self.alloc, pieces, self.setting.locale.quote_marks())
     }
 
-    /// What the driver is told of a cite in text of this formatting.
+    /// What the driver gets of a cite in text of this formatting.
     fn told(&self, cite: WrittenCite, around: TextFormatting) -> Result<driver::Cite, AllocError> {
         let WrittenCite {
             pieces,
@@ -274,7 +274,7 @@ impl<'s, 'i, 'd> TaskWriter<'s, 'i, 'd> {
     }
 }
 
-/// Leaves out what the driver is told of the parts of a cite: of one that is shown it asks nothing.
+/// Leaves out the marks of the parts of a cite: of one that is shown the driver asks nothing.
 fn leave_out_marks(alloc: Global, cite: &mut WrittenCite) -> Result<(), AllocError> {
     let pieces = replace(&mut cite.pieces, Pieces::new(alloc));
     cite.pieces = pieces.without_marks(alloc)?;
@@ -295,7 +295,7 @@ fn for_purpose(
     }
 }
 
-/// A cite of which nothing is written.
+/// A cite that writes nothing.
 fn nothing(alloc: Global) -> driver::Cite {
     driver::Cite {
         children: ElemChildren::new(alloc),

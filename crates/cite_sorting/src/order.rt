@@ -34,8 +34,8 @@ pub fn keys_of<'s>(
     Ok(keys)
 }
 
-/// The places of cites in the order of the keys. Cites of which all keys are equal stay in their
-/// order; one without a value is behind those that have one.
+/// The places of cites in the order of the keys. Cites whose keys are all equal stay in their
+/// order; one without a value follows those that have one.
 ///
 /// # Errors
 ///
@@ -55,8 +55,8 @@ pub fn sorted_places<'s>(
     Ok(places)
 }
 
-/// The places of cites in the order of the keys, those together of which all keys are equal. A key
-/// is written only of cites that those before it don't tell apart.
+/// The places of cites in the order of the keys, in groups whose keys are all equal. A key is
+/// written only of cites that are tied by those before it.
 ///
 /// # Errors
 ///
@@ -79,7 +79,7 @@ pub fn tied_places<'s>(
     Ok(ties)
 }
 
-/// Cites that are tied, told apart by one more key.
+/// Cites that are tied, in the order of one more key.
 fn told_apart<'s>(
     alloc: Global,
     scene: KeyScene<'s>,
@@ -98,7 +98,7 @@ fn told_apart<'s>(
     Ok(finer)
 }
 
-/// Adds cites that are tied, told apart by one more key.
+/// Adds cites that are tied, in the order of one more key.
 fn push_told_apart<'s>(
     alloc: Global,
     scene: KeyScene<'s>,
@@ -155,7 +155,7 @@ struct Row {
     place: usize,
 }
 
-/// The value of a key, all of which have one direction. One that is missing is behind the others.
+/// The value of a key of one direction. One that is missing follows the others.
 #[derive(PartialEq, Eq, PartialOrd, Ord, Drop)]
 enum Value {
     Ascending(CollationKey),

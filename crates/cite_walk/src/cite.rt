@@ -22,7 +22,7 @@ pub struct Scene<'s> {
     /// The options of names of the citation or the bibliography.
     pub names: &'s InheritedNameOptions,
     pub kind: SceneKind,
-    /// Whether a year suffix stands behind the first date.
+    /// Whether a year suffix follows the first date.
     pub adds_year_suffix: bool,
     /// Short forms of texts, where the document brings some.
     pub abbreviations: Option<&'s Abbreviations>,

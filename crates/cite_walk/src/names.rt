@@ -28,7 +28,7 @@ struct Block<'c> {
 }
 
 impl<'s, 'c> Walk<'s, 'c> {
-    /// Writes names. Tells whether there are some, or they are left out. Those are left out that
+    /// Writes names. Returns whether there are some, or they are left out. Those are left out that
     /// are there, or that something may stand in for.
     pub(crate) fn write_names(
         &mut self,
@@ -231,8 +231,8 @@ impl<'s, 'c> Walk<'s, 'c> {
         }
     }
 
-    /// The variable that the driver is told of: items of the bibliography are compared by their
-    /// names alone.
+    /// The variable that the driver gets: items of the bibliography are compared by their names
+    /// alone.
     fn told_variable(&self, variable: NameVariable) -> NameVariable {
         match self.scene.kind {
             SceneKind::Item => NameVariable::Author,
@@ -314,7 +314,7 @@ impl<'s, 'c> Walk<'s, 'c> {
     }
 
     /// The form of each name. Those of the first names of a cite are noted, and then raised to what
-    /// tells the item from others.
+    /// disambiguates the item.
     fn forms_of(
         &mut self,
         rules: &NameRules<'s>,

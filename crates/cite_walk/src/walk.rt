@@ -54,7 +54,7 @@ pub fn write_cite<'s>(
     walk.written()
 }
 
-/// The language of text cases: that of the item, if it tells one, else that of the locale.
+/// The language of text cases: that of the item, if it has one, else that of the locale.
 fn language_of(
     alloc: Global,
     scene: &Scene<'_>,

@@ -43,7 +43,7 @@ pub(crate) enum CommandError {
 }
 
 impl CommandError {
-    /// The exit status that tells it.
+    /// Its exit status.
     pub fn status(&self) -> u8 {
         match self {
             CommandError::Unreadable { .. } | CommandError::Output => 1,

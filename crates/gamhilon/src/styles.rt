@@ -12,10 +12,10 @@ use std::rt::Files;
 use style_file::style::{CslStyle, DependentStyle, StyleFile};
 use style_reader::file::read_style;
 
-/// Where styles are, where no folder is told.
+/// Where styles are by default.
 const STYLES: &str = "/usr/share/citation-style-language/styles";
 
-/// The language of a document where nothing tells one.
+/// The language of a document that names none.
 const LANGUAGE: &str = "en-US";
 
 /// A style, and the language that a style which depends on it asks for.
@@ -42,8 +42,8 @@ impl FoundStyle {
 }
 
 /// The style of a command, with that on which it depends in its place. What is odd in it is
-/// printed. A style that is built in goes before one of its name in the folder where that isn't
-/// told, and behind it where it is.
+/// printed. A style that is built in goes before one of its name in the default folder, and after
+/// it in a folder that the command line names.
 ///
 /// # Errors
 ///
@@ -72,8 +72,7 @@ pub(crate) fn style_of(
     }
 }
 
-/// The error of a style that can't be read, with a guess at which one was meant where it was told
-/// by a name.
+/// The error of a style that can't be read, with a guess at which one a name meant.
 fn no_style<R: Files + AllocGlobal + Clone + Drop>(
     rt: &R,
     folder: &str,
@@ -96,12 +95,12 @@ fn no_style<R: Files + AllocGlobal + Clone + Drop>(
     Ok(CommandError::Unreadable { path, why })
 }
 
-/// Whether a style is told by its path.
+/// Whether this is the path of a style.
 fn is_path(style: &str) -> bool {
     style.ends_with(".csl") || style.contains('/') || style == "-"
 }
 
-/// The style of this name that is built in, of which this is the file.
+/// The style of this name that is built in, with its file.
 fn packaged(
     rt: &(impl Eprint + AllocGlobal),
     name: &str,
@@ -119,7 +118,7 @@ fn packaged(
     }
 }
 
-/// Where a style is that is told by its name or its path.
+/// Where a style is, by its name or its path.
 fn style_path(
     rt: &(impl Files + AllocGlobal),
     folder: &str,
@@ -196,7 +195,7 @@ fn parent_of(
     }
 }
 
-/// What stands behind the last slash of a link.
+/// What follows the last slash of a link.
 fn last_part(link: &str) -> &str {
     match link.rsplit_once('/') {
         Some((_, name)) => name,
