@@ -3,7 +3,7 @@ use Rattle.std.specs.Prelude.{ℕ, List, Option, None, Some, length, if◌then�
 use Rattle.std.specs.List.{starts_with}
 use Rattle.cite_collation.specs.declared.letters.OwnLetter.{OwnLetter}
 
--- how many bytes of a text the signs of a letter are that it begins with
+-- how many bytes the signs of a letter have, where a text begins with them
 abbrev pub taken : List ℕ → OwnLetter → ℕ
 taken text letter = if starts_with nat_eq text letter.0.now then length letter.0.now else 0
 

@@ -1,22 +1,21 @@
-//! Alphabets of languages, as the Unicode CLDR project has them in its collations (version 42, of
-//! ICU 72).
+//! Alphabets of languages, as in the collations of Unicode's CLDR.
 use crate::letters::OwnLetter;
 use crate::tables::LANGUAGES;
 
 /// How a language sorts letters.
 #[derive(Clone, Copy)]
 pub struct Alphabet {
-    /// The letters that it sorts otherwise than Unicode's root collation.
+    /// The letters that it sorts otherwise than Unicode's root collation does.
     pub letters: &'static [OwnLetter],
     /// Whether `I` is the capital of `ı`, and `İ` that of `i`.
     pub has_dotless_i: bool,
-    /// Whether capitals stand before small letters, where texts are equal but for case.
+    /// Whether capitals precede small letters, where texts differ in case alone.
     pub has_capitals_first: bool,
 }
 
 impl Alphabet {
-    /// The alphabet of the language of a tag, as `sv-SE` or `sv_se`; the letters of Unicode's root
-    /// collation where the language is not known.
+    /// The alphabet of the language of a tag, as `sv-SE` or `sv_se`; that of Unicode's root
+    /// collation for other languages, as German.
     pub fn of_tag(tag: &str) -> Alphabet {
         let language = primary_language(tag);
         for (known, letters) in LANGUAGES {

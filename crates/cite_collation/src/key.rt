@@ -1,6 +1,6 @@
 //! The keys by which texts are compared.
 use crate::alphabets::Alphabet;
-use crate::letters::{BEHIND, BEHIND_OWN, is_variant, with_own_letters};
+use crate::letters::{NEXT, NEXT_OF_ALL, is_variant, with_sorted_letters};
 use crate::tables::LETTERS_OF_ALL;
 use caseless::default_case_fold_str;
 use std::alloc::{AllocError, Global};
@@ -42,8 +42,8 @@ impl CollationKey {
         }
         let decomposed = to_nfd(alloc, text)?;
         let small = small_letters(alloc, decomposed.as_str(), alphabet)?;
-        let own = with_own_letters(alloc, small.as_str(), alphabet.letters)?;
-        let letters = with_own_letters(alloc, own.as_str(), LETTERS_OF_ALL)?;
+        let own = with_sorted_letters(alloc, small.as_str(), alphabet.letters)?;
+        let letters = with_sorted_letters(alloc, own.as_str(), LETTERS_OF_ALL)?;
         let plain = to_nfkd(alloc, letters.as_str())?;
         CollationKey::of_letters(alloc, plain.as_str(), decomposed.as_str(), alphabet)
     }
@@ -52,7 +52,7 @@ impl CollationKey {
     /// only the case of letters is folded.
     fn of_ascii(alloc: Global, text: &str, alphabet: Alphabet) -> Result<CollationKey, AllocError> {
         let small = text.to_ascii_lowercase(alloc)?;
-        let letters = with_own_letters(alloc, small.as_str(), alphabet.letters)?;
+        let letters = with_sorted_letters(alloc, small.as_str(), alphabet.letters)?;
         CollationKey::of_letters(alloc, letters.as_str(), text, alphabet)
     }
 
@@ -88,7 +88,7 @@ impl CollationKey {
 
     /// Adds a character of a decomposed text in small letters.
     fn push(&mut self, c: char) -> Result<(), AllocError> {
-        if c == SEPARATOR || c == BEHIND || c == BEHIND_OWN {
+        if c == SEPARATOR || c == NEXT || c == NEXT_OF_ALL {
             return self.letters.push(c);
         }
         if c == BETWEEN_NAMES {

@@ -1,41 +1,41 @@
-//! Letters of one or more signs, and as what they are sorted.
+//! Letters of one or more signs, and how they are sorted.
 ghost use Rattle.std.specs.Prelude.{◌≡◌, ◌<◌, ◌≤◌, IfSome, All, Contains};
 ghost use Rattle.cite_collation.specs.Letters.{taken, taken_by};
 
 use std::alloc::{AllocError, Global};
 
-/// What follows a letter for one that stands directly behind it in an alphabet: it is behind all
+/// This after a letter is a letter that follows it in the alphabet of a language: it sorts after all
 /// that can follow the letter in a text.
-pub const BEHIND: char = '\u{e000}';
+pub const NEXT: char = '\u{e000}';
 
-/// The same for a letter that any alphabet has behind another one. It is behind those that a
-/// language has of its own.
-pub const BEHIND_OWN: char = '\u{e001}';
+/// The same for a letter that follows another one in all languages. It sorts after the letters of
+/// one language.
+pub const NEXT_OF_ALL: char = '\u{e001}';
 
-/// A letter of an alphabet: its signs, small and composed, and as what they are sorted. In this
-/// `BEHIND` and a letter from `a` on follow the letter behind which it stands, and a variant
-/// (`is_variant`) follows where two letters are apart only in texts that are equal but for accents.
+/// A letter of an alphabet: its signs, small and composed, and the text by which it is sorted. That
+/// text is the letter before it in the alphabet, `NEXT`, and `a` for the first letter there, `b` for
+/// the second. The sign of a variant comes last (`is_variant`).
 #[derive(Clone, Copy)]
 pub struct OwnLetter(pub &'static str, pub &'static str);
 
-/// Whether a sign stands for a variant of the letter before it: `\u{81}` for the first one,
-/// `\u{82}` for the next.
+/// Whether a sign makes a variant of the letter before it: `\u{81}` the first one, `\u{82}` the
+/// next. A variant differs from its letter only as an accent does, as `ä` from `æ` in Danish.
 pub fn is_variant(c: char) -> bool {
     matches!(c, '\u{81}'..='\u{84}')
 }
 
-/// A text in small letters, with these letters as they are sorted. Of two letters that begin at one
-/// place, as `dz` and `dzs`, the longer one stands there.
+/// A text in small letters, with each of these letters replaced by the text by which it is sorted.
+/// Where two letters begin at one place, as `dz` and `dzs`, the longer one is taken.
 ///
 /// # Errors
 ///
 /// Where memory is refused.
-pub fn with_own_letters(
+pub fn with_sorted_letters(
     alloc: Global,
     text: &str,
     letters: &[OwnLetter],
 ) -> Result<String, AllocError> {
-    let mut out = String::new(alloc);
+    let mut sorted = String::new(alloc);
     let mut end = 0;
     for (start, c) in text.char_indices() {
         if start < end {
@@ -43,13 +43,13 @@ pub fn with_own_letters(
         }
         match longest_letter(letters, text.get(start..).unwrap_or("")) {
             Some(letter) => {
-                out.push_str(letter.1)?;
+                sorted.push_str(letter.1)?;
                 end = start.saturating_add(letter.0.len());
             }
-            None => out.push(c)?,
+            None => sorted.push(c)?,
         }
     }
-    Ok(out)
+    Ok(sorted)
 }
 
 /// The longest of these letters that a text begins with.
@@ -70,7 +70,7 @@ fn longest_letter(letters: &[OwnLetter], text: &str) -> Option<OwnLetter>
     longest
 }
 
-/// How many bytes of a text the signs of a letter are that it begins with: none if it doesn't.
+/// How many bytes the signs of a letter have, where a text begins with them; none elsewhere.
 fn length_at_start(letter: OwnLetter, text: &str) -> usize
     ensures { result ≡ taken text.now letter }
 {

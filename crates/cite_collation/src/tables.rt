@@ -1,8 +1,7 @@
-//! The letters that languages have of their own, as Unicode's CLDR has them in its collations
-//! (version 42, that of ICU 72).
+//! The letters of languages, from the collations of Unicode's CLDR 42 (as ICU 72 has them).
 use crate::letters::OwnLetter;
 
-/// The languages that have letters of their own, each by what its tags begin with.
+/// The languages that sort some letters in their own way, by what their tags begin with.
 pub const LANGUAGES: &[(&str, &[OwnLetter])] = &[
     ("az", AZERBAIJANI),
     ("bs", CROATIAN),
@@ -27,7 +26,7 @@ pub const LANGUAGES: &[(&str, &[OwnLetter])] = &[
     ("tr", TURKISH),
 ];
 
-/// Letters that any language sorts behind another one, as Unicode's root collation has them.
+/// Letters that follow another one in all languages, as in Unicode's root collation.
 pub const LETTERS_OF_ALL: &[OwnLetter] = &[
     OwnLetter("ə", "e\u{e001}"),
     OwnLetter("ŋ", "n\u{e001}"),

@@ -31,7 +31,7 @@ use style_file::style::{CslStyle, StyleClass};
 pub struct Document<'d> {
     pub style: &'d CslStyle,
     pub locale: &'d LocaleChain<'d>,
-    /// The tag of its language, as `sv-SE`, by the alphabet of which texts are sorted.
+    /// The tag of its language, as `sv-SE`: texts are sorted by its alphabet.
     pub language: &'d str,
     pub references: &'d References,
     pub citations: &'d [Citation],
