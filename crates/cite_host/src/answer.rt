@@ -9,9 +9,13 @@ use crate::requests::{Driver, bibliography_request, filled_driver, locators_of};
 use crate::setting::Setting;
 use crate::sorting::{SortedCitation, sorted_citations};
 use crate::writer::TaskWriter;
+<<<<<<< HEAD
 use cite_limits::budget::Budget;
 use cite_limits::cost::Cost;
 use cite_limits::error::LimitError;
+=======
+use cite_collation::alphabets::Alphabet;
+>>>>>>> 193923b8b4f0fc5f63c54ff6083383bceeb69eaf
 use cite_locale::chain::LocaleChain;
 use cite_pieces::formatting::NOTHING_ASKED;
 use cite_pieces::piece::Wrap;
@@ -33,6 +37,8 @@ use style_file::style::{CslStyle, StyleClass};
 pub struct Document<'d> {
     pub style: &'d CslStyle,
     pub locale: &'d LocaleChain<'d>,
+    /// The tag of its language, as `sv-SE`: texts are sorted by its alphabet.
+    pub language: &'d str,
     pub references: &'d References,
     pub citations: &'d [Citation],
     /// Short forms of texts, where there are some beside those of the references.
@@ -78,6 +84,7 @@ impl<'d> Document<'d> {
         let setting = Setting {
             style: self.style,
             locale: self.locale,
+            alphabet: Alphabet::of_tag(self.language),
             programs: &programs,
             abbreviations: self.abbreviations,
             budget: &budget,

@@ -1,7 +1,11 @@
 //! A style in use.
 use crate::programs::{BibliographyProgram, Programs};
+<<<<<<< HEAD
 use cite_limits::budget::Budget;
 use cite_limits::error::StylePlace;
+=======
+use cite_collation::alphabets::Alphabet;
+>>>>>>> 193923b8b4f0fc5f63c54ff6083383bceeb69eaf
 use cite_locale::chain::LocaleChain;
 use cite_sorting::keys::KeyScene;
 use cite_walk::abbreviations::Abbreviations;
@@ -13,6 +17,7 @@ use style_file::style::CslStyle;
 pub(crate) struct Setting<'s> {
     pub style: &'s CslStyle,
     pub locale: &'s LocaleChain<'s>,
+    pub alphabet: Alphabet,
     pub programs: &'s Programs<'s>,
     /// Short forms of texts, where the document brings some.
     pub abbreviations: Option<&'s Abbreviations>,
@@ -59,6 +64,7 @@ impl<'s> Setting<'s> {
         KeyScene {
             style: self.style,
             locale: self.locale,
+            alphabet: self.alphabet,
             names: &self.style.citation.names,
             abbreviations: self.abbreviations,
             budget: self.budget,
@@ -71,6 +77,7 @@ impl<'s> Setting<'s> {
         KeyScene {
             style: self.style,
             locale: self.locale,
+            alphabet: self.alphabet,
             names: &bibliography.section.names,
             abbreviations: self.abbreviations,
             budget: self.budget,
