@@ -197,10 +197,10 @@ uint32_t gamhilon_find_cite_fault(const uint8_t *style, size_t style_length,
  * takes four. What the style writes, affixes, delimiters and words, is counted in bytes before it
  * is written, and so are the fields of items. A document has `steps` steps and `bytes` bytes
  * (5,000 and 100,000, where `options` has no `limits`) for each cite and once more for each item
- * that is cited, and forty times as many beside; an item of many names counts once more for each
- * 128 of them. One cite, one item or one key of sorting may take twice that part, and the programs
- * of the style may have forty times as many steps. Where less is left than a step takes, the call
- * ends with GAMHILON_LIMIT_EXCEEDED before that step is taken.
+ * that is cited, and forty times as many beside; an item counts once more for each 128 names and
+ * each 20,000 bytes of text that it has. One cite, one item or one key of sorting may take twice
+ * that part, and the programs of the style may have forty times as many steps. Where less is left
+ * than a step takes, the call ends with GAMHILON_LIMIT_EXCEEDED before that step is taken.
  *
  * No published style comes near: of 2,548 the dearest way through a layout takes 1,400 steps and
  * writes 1 KB of the style's own texts. Lower limits keep time and memory lower in proportion.
