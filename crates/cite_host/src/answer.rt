@@ -4,18 +4,14 @@ use crate::driven::driven_style;
 use crate::entries::{Items, cited_references};
 use crate::error::AnswerError;
 use crate::joining::joined;
-use crate::limits::{budget_of, programs_within};
+use crate::limits::{budget_of, programs_within, spend_around};
 use crate::requests::{Driver, bibliography_request, filled_driver, locators_of};
 use crate::setting::Setting;
 use crate::sorting::{SortedCitation, sorted_citations};
 use crate::writer::TaskWriter;
-<<<<<<< HEAD
+use cite_collation::alphabets::Alphabet;
 use cite_limits::budget::Budget;
 use cite_limits::cost::Cost;
-use cite_limits::error::LimitError;
-=======
-use cite_collation::alphabets::Alphabet;
->>>>>>> 193923b8b4f0fc5f63c54ff6083383bceeb69eaf
 use cite_locale::chain::LocaleChain;
 use cite_pieces::formatting::NOTHING_ASKED;
 use cite_pieces::piece::Wrap;
@@ -79,7 +75,7 @@ impl<'d> Document<'d> {
     /// has; `TooManyItems`; `OutOfMemory`.
     pub fn answer(&self, alloc: Global) -> Result<Answer, AnswerError> {
         let cited = cited_references(alloc, self.references, self.citations)?;
-        let budget = self.budget(&cited)?;
+        let budget = self.budget(&cited);
         let programs = programs_within(alloc, self.style, &budget)?;
         let setting = Setting {
             style: self.style,
@@ -93,7 +89,7 @@ impl<'d> Document<'d> {
     }
 
     /// What the document may take, which cites these items.
-    fn budget(&self, cited: &[&Reference]) -> Result<Budget, LimitError> {
+    fn budget(&self, cited: &[&Reference]) -> Budget {
         budget_of(
             self.style,
             self.part,
@@ -110,6 +106,7 @@ impl<'d> Document<'d> {
         setting: Setting<'_>,
         cited: Vec<&'d Reference>,
     ) -> Result<Answer, AnswerError> {
+        spend_around(self.style, setting.budget, self.citations, &cited)?;
         let items = Items::in_order(alloc, setting, cited)?;
         let citations = sorted_citations(alloc, setting, &items, self.citations)?;
         let rendered = self.rendered(alloc, setting, &items, &citations)?;

@@ -116,23 +116,37 @@ impl<'s> Section<'s> {
     }
 }
 
-/// The budget of a document that cites these items, of which what stands around and between cites
-/// and items is taken.
-///
-/// # Errors
-///
-/// `Exceeded` where that alone is more.
+/// The budget of a document that cites these items.
 pub(crate) fn budget_of(
     style: &CslStyle,
     part: Cost,
     references: &References,
     citations: &[Citation],
     cited: &[&Reference],
-) -> Result<Budget, LimitError> {
+) -> Budget {
     let mut parts = 0usize;
-    let mut names = 0usize;
     for reference in cited {
         parts = parts.saturating_add(parts_of_item(*reference));
+    }
+    for citation in citations {
+        parts = parts.saturating_add(parts_of_cites(references, citation));
+    }
+    Budget::new(style, part, parts)
+}
+
+/// Takes the cost of what stands around and between the citations and these items.
+///
+/// # Errors
+///
+/// `Exceeded` where the budget has less left.
+pub(crate) fn spend_around(
+    style: &CslStyle,
+    budget: &Budget,
+    citations: &[Citation],
+    cited: &[&Reference],
+) -> Result<(), LimitError> {
+    let mut names = 0usize;
+    for reference in cited {
         names = names
             .saturating_add(names_of_item(*reference))
             .saturating_add(1);
@@ -140,11 +154,8 @@ pub(crate) fn budget_of(
     let mut cites = citations.len();
     for citation in citations {
         cites = cites.saturating_add(citation.cites.len());
-        parts = parts.saturating_add(parts_of_cites(references, citation));
     }
-    let budget = Budget::new(style, part, parts);
-    spend_texts(style, &budget, cites, names)?;
-    Ok(budget)
+    spend_texts(style, budget, cites, names)
 }
 
 /// How many parts a document has for the cites of a citation.

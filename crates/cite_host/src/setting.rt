@@ -1,11 +1,8 @@
 //! A style in use.
 use crate::programs::{BibliographyProgram, Programs};
-<<<<<<< HEAD
+use cite_collation::alphabets::Alphabet;
 use cite_limits::budget::Budget;
 use cite_limits::error::StylePlace;
-=======
-use cite_collation::alphabets::Alphabet;
->>>>>>> 193923b8b4f0fc5f63c54ff6083383bceeb69eaf
 use cite_locale::chain::LocaleChain;
 use cite_sorting::keys::KeyScene;
 use cite_walk::abbreviations::Abbreviations;

@@ -22,6 +22,9 @@ const PARTS_OF_ONE: usize = 2;
 /// For how many of its names an item has one more part.
 const NAMES_OF_PART: usize = 128;
 
+/// For how many bytes of its texts an item has one more part.
+const BYTES_OF_PART: usize = 20_000;
+
 /// What the words of locale files take at most, as costs count them.
 const USUAL_WORDS: usize = 32;
 
@@ -109,7 +112,20 @@ impl Budget {
 
 /// How many parts a document has for an item, and for each cite of it.
 pub fn parts_of_item(reference: &Reference) -> usize {
-    (names_of_item(reference) / NAMES_OF_PART).saturating_add(1)
+    let of_names = names_of_item(reference) / NAMES_OF_PART;
+    let of_texts = bytes_of_item(reference) / BYTES_OF_PART;
+    of_names.saturating_add(of_texts).saturating_add(1)
+}
+
+/// How long the texts of an item are.
+fn bytes_of_item(reference: &Reference) -> usize {
+    let mut bytes = 0usize;
+    for (_, text) in &reference.texts {
+        for run in &text.runs {
+            bytes = bytes.saturating_add(run.text.len());
+        }
+    }
+    bytes
 }
 
 /// How many names an item has.

@@ -170,11 +170,9 @@ mod tests {
 
     #[test]
     fn what_exceeds_limits_has_its_status() {
-        for (status, refusal) in [
-            (7, Refusal::TooDeep),
-            (8, Refusal::TooManyElements),
-            (10, Refusal::LimitExceeded),
-        ] {
+        for (status, refusal) in
+            [(7, Refusal::TooDeep), (8, Refusal::TooManyElements), (10, Refusal::LimitExceeded)]
+        {
             assert_eq!(Refusal::of(status), refusal);
             assert_eq!(refusal.status(), status);
         }

@@ -142,8 +142,9 @@ fn a_style_that_takes_too_much_has_its_place() {
     assert_eq!(error.status(), 10);
     match error {
         gamhilon::CiteError::LimitExceeded(Some(fault)) => {
-            let is_macro = matches!(fault.remark.place, gamhilon::TextPlace::Line { line: 2.., .. });
-            assert!(fault.remark.file == "style" && is_macro, "{fault:?}");
+            let place = fault.remark.place;
+            assert_eq!(fault.remark.file, "style");
+            assert!(matches!(place, gamhilon::TextPlace::Line { line: 2.., .. }), "{place:?}");
         }
         other => panic!("{other:?}"),
     }
