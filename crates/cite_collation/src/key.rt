@@ -13,7 +13,7 @@ pub const SEPARATOR: char = '\u{2}';
 /// What stands between the names that a macro writes (`cite_names::rules::SORT_DELIMITER`).
 const BETWEEN_NAMES: char = '\u{1}';
 
-/// What that is compared as: behind a space, so that what the macro writes behind a name is before
+/// What that is compared as: after a space, so that what the macro writes after a name sorts before
 /// a second name, and before letters and digits.
 const AFTER_SPACE: char = '!';
 

@@ -4,8 +4,8 @@ ghost use Rattle.cite_collation.specs.Letters.{taken, taken_by};
 
 use std::alloc::{AllocError, Global};
 
-/// This after a letter is a letter that follows it in the alphabet of a language: it sorts after all
-/// that can follow the letter in a text.
+/// This after a letter is the letter that follows it in the alphabet of a language: it sorts after
+/// all that can follow the letter in a text.
 pub const NEXT: char = '\u{e000}';
 
 /// The same for a letter that follows another one in all languages. It sorts after the letters of
@@ -13,8 +13,8 @@ pub const NEXT: char = '\u{e000}';
 pub const NEXT_OF_ALL: char = '\u{e001}';
 
 /// A letter of an alphabet: its signs, small and composed, and the text by which it is sorted. That
-/// text is the letter before it in the alphabet, `NEXT`, and `a` for the first letter there, `b` for
-/// the second. The sign of a variant comes last (`is_variant`).
+/// text is the letter before it in the alphabet, `NEXT`, and `a` for the first letter there, `b`
+/// for the second. The sign of a variant comes last (`is_variant`).
 #[derive(Clone, Copy)]
 pub struct OwnLetter(pub &'static str, pub &'static str);
 

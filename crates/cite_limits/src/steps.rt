@@ -97,7 +97,7 @@ fn date_cost(date: &Date, words: usize) -> Cost {
     }
 }
 
-/// The cost of names, each variable of which has one.
+/// The cost of names, where each variable has one.
 fn names_cost(names: &NamesInUse<'_>, prices: &Prices<'_>) -> Cost {
     let rules = NameRules::of_name(names.name, prices.down);
     Cost {
@@ -135,7 +135,7 @@ pub fn name_length(names: &NamesInUse<'_>, rules: &NameRules<'_>) -> usize {
         .saturating_add(initial_length(rules).saturating_mul(2))
 }
 
-/// How long what stands behind an initial is.
+/// How long what follows an initial is.
 pub fn initial_length(rules: &NameRules<'_>) -> usize {
     rules.initialize_with.unwrap_or("").len()
 }
