@@ -213,6 +213,8 @@ def main(arguments: Optional[List[str]] = None) -> int:
         words.to = words.to or ('html' if words.standalone else 'text')
     if words.command == 'latex' and not (words.paper or words.where or words.install):
         made.error('latex: give a PAPER, --where or --install')
+    if words.command == 'preview' and words.files == ['-']:
+        made.error('preview: STYLE is a file that can change')
     if _inputs(words) > 1:
         made.error('- stands for several files, and standard input is read once')
     return _console.interruptible(partial(run, words))
