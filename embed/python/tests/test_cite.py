@@ -172,14 +172,15 @@ def test_citations_and_items(cites):
 
 
 def test_limits_of_a_style(cites):
-    long = STYLE.replace('<citation>', '<macro name="m"><text value="%s"/></macro>\n<citation>'
-                         % ('x' * 200001)).replace('<text variable="title"/>', '<text macro="m"/>')
+    macro = '<macro name="m"><text variable="title" prefix="%s"/></macro>\n' % ('x' * 200001)
+    layout = STYLE.replace('<text variable="title"/>', '<text macro="m"/>')
+    long = layout.replace('<citation>', macro + '<citation>')
     with pytest.raises(gamhilon.StyleLimitExceeded, match='^style:3:1: the style writes more than'):
         gamhilon.cite(long, ITEMS, [[{'id': 'a'}]])
     with pytest.raises(gamhilon.StyleLimitExceeded, match='^style:3:1: .* more than 0 steps$'):
         gamhilon.cite(STYLE, ITEMS, [[{'id': 'a'}]], most_steps=0)
-    answer = gamhilon.cite(long, ITEMS, [[{'id': 'a'}]], most_bytes=100001)
-    assert gamhilon.plain(answer.citations[0].content) == '(%s)' % ('x' * 200001)
+    answer = gamhilon.cite(long, ITEMS, [[{'id': 'b'}]], most_bytes=100001)
+    assert gamhilon.plain(answer.citations[0].content) == '(%sB)' % ('x' * 200001)
 
 
 def test_a_language_and_its_locale(cites):
