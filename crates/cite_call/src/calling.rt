@@ -52,6 +52,7 @@ fn answer_of(
     let asked = Document {
         style: &document.style,
         locale,
+        language: document.language.as_str(),
         references: &document.references,
         citations: &document.citations,
         abbreviations: document.abbreviations.as_ref(),

@@ -9,6 +9,7 @@ use crate::requests::{Driver, bibliography_request, filled_driver, locators_of};
 use crate::setting::Setting;
 use crate::sorting::{SortedCitation, sorted_citations};
 use crate::writer::TaskWriter;
+use cite_collation::alphabets::Alphabet;
 use cite_limits::budget::Budget;
 use cite_limits::cost::Cost;
 use cite_locale::chain::LocaleChain;
@@ -32,6 +33,8 @@ use style_file::style::{CslStyle, StyleClass};
 pub struct Document<'d> {
     pub style: &'d CslStyle,
     pub locale: &'d LocaleChain<'d>,
+    /// The tag of its language, as `sv-SE`: texts are sorted by its alphabet.
+    pub language: &'d str,
     pub references: &'d References,
     pub citations: &'d [Citation],
     /// Short forms of texts, where there are some beside those of the references.
@@ -77,6 +80,7 @@ impl<'d> Document<'d> {
         let setting = Setting {
             style: self.style,
             locale: self.locale,
+            alphabet: Alphabet::of_tag(self.language),
             programs: &programs,
             abbreviations: self.abbreviations,
             budget: &budget,

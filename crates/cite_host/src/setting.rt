@@ -1,5 +1,6 @@
 //! A style in use.
 use crate::programs::{BibliographyProgram, Programs};
+use cite_collation::alphabets::Alphabet;
 use cite_limits::budget::Budget;
 use cite_limits::error::StylePlace;
 use cite_locale::chain::LocaleChain;
@@ -13,6 +14,7 @@ use style_file::style::CslStyle;
 pub(crate) struct Setting<'s> {
     pub style: &'s CslStyle,
     pub locale: &'s LocaleChain<'s>,
+    pub alphabet: Alphabet,
     pub programs: &'s Programs<'s>,
     /// Short forms of texts, where the document brings some.
     pub abbreviations: Option<&'s Abbreviations>,
@@ -59,6 +61,7 @@ impl<'s> Setting<'s> {
         KeyScene {
             style: self.style,
             locale: self.locale,
+            alphabet: self.alphabet,
             names: &self.style.citation.names,
             abbreviations: self.abbreviations,
             budget: self.budget,
@@ -71,6 +74,7 @@ impl<'s> Setting<'s> {
         KeyScene {
             style: self.style,
             locale: self.locale,
+            alphabet: self.alphabet,
             names: &bibliography.section.names,
             abbreviations: self.abbreviations,
             budget: self.budget,

@@ -25,7 +25,7 @@ pub struct Excess {
 }
 
 impl Excess {
-    /// The excess of something that has too little of what is told, of these in all.
+    /// The excess of something that has too little of this, where there were so many in all.
     pub fn of(what: Limited, most: Cost, place: StylePlace) -> Excess {
         Excess {
             what,

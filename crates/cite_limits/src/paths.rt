@@ -37,7 +37,7 @@ pub fn check_ways(
     Ok(())
 }
 
-/// The cost of the dearest way behind a step, where those behind it are known.
+/// The cost of the dearest way after a step, where the costs of later steps are known.
 fn cost_behind(program: &Program<'_>, dearest: &[Cost], here: usize) -> Cost {
     let next = cost_at(dearest, here.saturating_add(1));
     match program.steps.get(here) {

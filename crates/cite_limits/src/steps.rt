@@ -117,7 +117,7 @@ fn date_cost(date: &Date, words: Cost) -> Cost {
     element_cost(&date.affixes, inside.plus(words.times(WORDS_OF_DATE)))
 }
 
-/// The cost of names, each variable of which has one.
+/// The cost of names, where each variable has one.
 fn names_cost(names: &NamesInUse<'_>, prices: &Prices<'_>) -> Cost {
     let rules = NameRules::of_name(names.name, prices.down);
     block_cost(names, prices)

@@ -1,5 +1,6 @@
 //! The values of keys.
-use crate::collation::{CollationKey, SEPARATOR};
+use cite_collation::alphabets::Alphabet;
+use cite_collation::key::{CollationKey, SEPARATOR};
 use cite_dates::sorting::sorted_date;
 use cite_limits::budget::Budget;
 use cite_limits::cost::Cost;
@@ -75,6 +76,8 @@ fn test_reads_locator(test: &Test) -> bool {
 pub struct KeyScene<'s> {
     pub style: &'s CslStyle,
     pub locale: &'s LocaleChain<'s>,
+    /// The letters of the language of the locale, in order.
+    pub alphabet: Alphabet,
     /// The options of names of the citation or the bibliography.
     pub names: &'s InheritedNameOptions,
     /// Short forms of texts, where the document brings some.
@@ -108,8 +111,7 @@ impl<'s> KeyScene<'s> {
         if text.as_str().trim().is_empty() {
             return Ok(None);
         }
-        let own = self.locale.own_letters();
-        Ok(Some(CollationKey::of_text(alloc, text.as_str(), own)?))
+        Ok(Some(CollationKey::of_text(alloc, text.as_str(), self.alphabet)?))
     }
 
     /// What a macro writes.

@@ -1,6 +1,6 @@
 //! The order of items.
-use crate::collation::CollationKey;
 use crate::keys::{Key, KeyScene};
+use cite_collation::key::CollationKey;
 use cite_limits::error::LimitError;
 use cite_program::build::program_of;
 use cite_program::program::ProgramError;

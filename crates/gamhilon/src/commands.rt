@@ -175,7 +175,7 @@ fn print_in_language<'p>(
     let locale = LocaleChain::new(rt.alloc(), language, &style.locales, &files)?;
     let is_whole = options.format == OutputFormat::Json;
     let lists_items = is_whole || printed != Printed::Citations;
-    let answer = answer_of(rt.alloc(), options, asked, &locale, lists_items)?;
+    let answer = answer_of(rt.alloc(), options, asked, &locale, language, lists_items)?;
     let printing = Printing {
         options,
         style,
@@ -199,11 +199,13 @@ fn answer_of(
     options: &Options,
     asked: AskedDocument<'_>,
     locale: &LocaleChain<'_>,
+    language: &str,
     lists_items: bool,
 ) -> Result<Answer, CommandError> {
     let document = Document {
         style: &asked.found.style,
         locale,
+        language,
         references: asked.references,
         citations: &asked.cited.citations,
         abbreviations: asked.abbreviations,
