@@ -109,11 +109,14 @@ EXCESSIVE = [
     ('a long delimiter of cites', STYLE.replace('<layout>', '<layout delimiter="%s">' % ('x' * 200001)), '3:1', BYTES % 200000),
     ('a long text in place of names that repeat', style_of(TITLE).replace('<bibliography>', '\n<bibliography subsequent-author-substitute="%s">'
                                                                         % ('x' * 200001)), '4:1', BYTES % 200000),
+    ('a long value, which may be full of markup', of_macros('<text value="%s"/>' % ('x' * 40100)), '3:1', STEPS % 10000),
+    ('a language with 1,700 locales', STYLE.replace('<citation>', '<locale xml:lang="de"><terms/></locale>' * 1700 + '\n<citation>'), '3:1',
+     STEPS % 100),
     ('a long term', STYLE.replace('<citation>', '<locale><terms><term name="and">%s</term></terms></locale>\n<citation>' % ('x' * 2001)),
      '3:1', BYTES % 2000),
 ]
-# What is written once more in another case is paid for each time: 50,000 bytes, and four times as many.
-CASES_IN_CASES = of_macros('<text macro="m3" text-case="uppercase"/>', '<text value="%s"/>' % ('x' * 50000),
+# What is written once more in another case is paid for each time: 50,000 bytes with the title, and four times as many.
+CASES_IN_CASES = of_macros('<text macro="m3" text-case="uppercase"/>', '<text variable="title" prefix="%s"/>' % ('x' * 49999),
                            *('<text macro="m%d" text-case="uppercase"/>' % n for n in range(3)))
 # Each takes 1 step, 4 for the variable, and 400 for a hundred names.
 NAMES_25 = style_of('<names variable="author"><name et-al-min="2" et-al-use-first="1"/></names>' * 25)

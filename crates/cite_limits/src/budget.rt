@@ -28,6 +28,13 @@ const BYTES_OF_PART: usize = 20_000;
 /// What the words of locale files take at most, as costs count them.
 const USUAL_WORDS: usize = 32;
 
+/// How many locales a style may have whose languages are compared.
+const MANY_LOCALES: usize = 500;
+
+/// How many locales or parts of dates are looked at in a step. A date of a locale has three parts,
+/// and there are two.
+const LOOKUPS_OF_STEP: usize = 16;
+
 /// What the writing of a document may take, and what is left of it.
 #[derive(Drop)]
 pub struct Budget {
@@ -35,8 +42,7 @@ pub struct Budget {
     /// What there was of it.
     most: Cost,
     left: Cell<Cost>,
-    /// How long the words of the style in any language are at most.
-    words: usize,
+    words: Cost,
 }
 
 /// What one cite, item or key may take.
@@ -56,12 +62,12 @@ impl Budget {
             part,
             most,
             left: Cell::new(most),
-            words: longest_words(&style.locales).max(USUAL_WORDS),
+            words: words_of(&style.locales),
         }
     }
 
-    /// How long the words of the style are at most.
-    pub fn words(&self) -> usize {
+    /// What finding and writing the words of a term takes at most.
+    pub fn words(&self) -> Cost {
         self.words
     }
 
@@ -137,17 +143,58 @@ pub fn names_of_item(reference: &Reference) -> usize {
     names
 }
 
-/// The length of the longest words that these locales have: of a term, or around the parts of a
-/// date.
-fn longest_words(locales: &[StyleLocale]) -> usize {
-    let mut longest = 0usize;
+/// What finding and writing words in the locales of a style takes at most: of a term, or of what
+/// stands around the parts of a date.
+fn words_of(locales: &[StyleLocale]) -> Cost {
+    let mut longest = USUAL_WORDS;
+    let mut parts = 0usize;
     for locale in locales {
         longest = longest.max(longest_of(locale));
+        parts = parts.max(parts_of_dates(locale));
     }
-    longest
+    Cost {
+        steps: repeated(locales).saturating_add(parts) / LOOKUPS_OF_STEP,
+        bytes: longest,
+    }
 }
 
-/// The length of the longest words that a locale has.
+/// How many parts the dates of a locale have, and dates.
+fn parts_of_dates(locale: &StyleLocale) -> usize {
+    let mut parts = locale.locale.dates.len();
+    for date in &locale.locale.dates {
+        parts = parts.saturating_add(date.parts.len());
+    }
+    parts
+}
+
+/// How many locales are of the same language as one before them; of very many, all.
+fn repeated(locales: &[StyleLocale]) -> usize {
+    if locales.len() > MANY_LOCALES {
+        return locales.len();
+    }
+    let mut repeated = 0usize;
+    for (place, locale) in locales.iter().enumerate() {
+        let before = locales.iter().take(place);
+        if before
+            .filter(|other| are_of_one_language(other, locale))
+            .count()
+            > 0
+        {
+            repeated = repeated.saturating_add(1);
+        }
+    }
+    repeated
+}
+
+fn are_of_one_language(one: &StyleLocale, other: &StyleLocale) -> bool {
+    match (&one.language, &other.language) {
+        (Some(one), Some(other)) => one.as_str().eq_ignore_ascii_case(other.as_str()),
+        (None, None) => true,
+        _ => false,
+    }
+}
+
+/// The length of the longest words that a locale has: of a term, or around the parts of a date.
 pub(crate) fn longest_of(locale: &StyleLocale) -> usize {
     let mut longest = 0usize;
     for term in &locale.locale.terms {

@@ -9,7 +9,7 @@ use style_file::style::CslStyle;
 const WORDS_OF_ONE: usize = 100;
 
 /// Refuses a style that writes more around one cite or item than one may take, or whose words of a
-/// language are so long that a hundred of them do.
+/// language are so long, or so many, that a hundred of them do.
 ///
 /// # Errors
 ///
@@ -27,6 +27,20 @@ pub fn check_texts(style: &CslStyle, budget: &Budget) -> Result<(), LimitError> 
             most / WORDS_OF_ONE,
             StylePlace::Locale(place),
         )?;
+    }
+    check_lookups(budget)
+}
+
+/// Refuses locales in which finding words takes so long that a hundred of them take more than one
+/// cite may.
+fn check_lookups(budget: &Budget) -> Result<(), LimitError> {
+    let most = budget.of_one().steps / WORDS_OF_ONE;
+    if budget.words().steps > most {
+        return Err(LimitError::Exceeded(Excess {
+            what: Limited::Steps,
+            most,
+            place: StylePlace::Locale(0),
+        }));
     }
     Ok(())
 }

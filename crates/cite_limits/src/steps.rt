@@ -11,6 +11,18 @@ use style_file::names::NamePart;
 /// How many steps a name takes, and a variable that may have some.
 pub const STEPS_OF_NAME: usize = 4;
 
+/// How many initials a name has where nothing is known of it.
+const USUAL_INITIALS: usize = 2;
+
+/// How long a text of a style usually is that may have markup.
+const USUAL_VALUE: usize = 64;
+
+/// How long what stands between parts of a name, or behind an initial, usually is.
+const USUAL_SEPARATOR: usize = 8;
+
+/// How many bytes of a text that is longer than usual may be markup that takes a step.
+const BYTES_OF_MARKUP: usize = 4;
+
 /// How many words of a locale a date has at most.
 const WORDS_OF_DATE: usize = 4;
 
@@ -24,8 +36,8 @@ pub struct Prices<'s> {
     pub down: HandedDown<'s>,
     /// What stands between the names of two variables where the style says nothing there.
     pub names_delimiter: &'s str,
-    /// How long the words of a locale are at most.
-    pub words: usize,
+    /// What finding and writing words of a locale takes at most.
+    pub words: Cost,
 }
 
 /// The cost of a step of a program, beside that of what the item has.
@@ -41,7 +53,7 @@ pub fn step_cost(program: &Program<'_>, step: &Step<'_>, prices: &Prices<'_>) ->
             None => Cost::STEP,
         },
         Step::OpenSubstitute { names_at } => substitute_cost(program, *names_at),
-        Step::OpenGroup(group) => element_cost(&group.affixes, 0),
+        Step::OpenGroup(group) => element_cost(&group.affixes, Cost::NOTHING),
         Step::OpenMacro(text) => text_cost(text, words),
         Step::Test { branch, .. } => Cost::of_steps(branch.tests.len().saturating_add(1)),
         Step::CloseSubstitute { .. }
@@ -52,12 +64,13 @@ pub fn step_cost(program: &Program<'_>, step: &Step<'_>, prices: &Prices<'_>) ->
     }
 }
 
-/// The cost of an element with these affixes around so many bytes.
-fn element_cost(affixes: &Affixes, inside: usize) -> Cost {
+/// The cost of an element with these affixes around something of this cost.
+fn element_cost(affixes: &Affixes, inside: Cost) -> Cost {
     Cost {
         steps: 1,
-        bytes: affixes_length(affixes).saturating_add(inside),
+        bytes: affixes_length(affixes),
     }
+    .plus(inside)
 }
 
 fn affixes_length(affixes: &Affixes) -> usize {
@@ -65,22 +78,30 @@ fn affixes_length(affixes: &Affixes) -> usize {
 }
 
 /// The cost of a text, which has words of a locale in its place or around it.
-fn text_cost(text: &Text, words: usize) -> Cost {
+fn text_cost(text: &Text, words: Cost) -> Cost {
     let inside = match &text.source {
         TextSource::Term { .. } => words,
-        TextSource::Value(value) => value.len(),
-        TextSource::Variable { .. } | TextSource::Number(_) | TextSource::Macro(_) => 0,
+        TextSource::Value(value) => Cost {
+            steps: markup_steps(value.len(), USUAL_VALUE),
+            bytes: value.len(),
+        },
+        TextSource::Variable { .. } | TextSource::Number(_) | TextSource::Macro(_) => Cost::NOTHING,
     };
     let quotes = if text.quotes {
-        words.saturating_mul(2)
+        words.times(2)
     } else {
-        0
+        Cost::NOTHING
     };
-    element_cost(&text.affixes, inside.saturating_add(quotes))
+    element_cost(&text.affixes, inside.plus(quotes))
+}
+
+/// How many steps the markup of a text takes at most that is longer than usual.
+fn markup_steps(length: usize, usual: usize) -> usize {
+    length.saturating_sub(usual) / BYTES_OF_MARKUP
 }
 
 /// The cost of a date, which may be a range of two.
-fn date_cost(date: &Date, words: usize) -> Cost {
+fn date_cost(date: &Date, words: Cost) -> Cost {
     let (parts, delimiter) = match &date.format {
         DateFormat::Localized { settings, .. } => (settings, ""),
         DateFormat::Own { parts, delimiter } => (parts, delimiter.as_str()),
@@ -89,55 +110,53 @@ fn date_cost(date: &Date, words: usize) -> Cost {
     let around = parts_length(parts)
         .saturating_add(between)
         .saturating_mul(2);
-    Cost {
-        steps: parts.len().saturating_add(1),
-        bytes: affixes_length(&date.affixes)
-            .saturating_add(around)
-            .saturating_add(words.saturating_mul(WORDS_OF_DATE)),
-    }
+    let inside = Cost {
+        steps: parts.len(),
+        bytes: around,
+    };
+    element_cost(&date.affixes, inside.plus(words.times(WORDS_OF_DATE)))
 }
 
 /// The cost of names, where each variable has one.
 fn names_cost(names: &NamesInUse<'_>, prices: &Prices<'_>) -> Cost {
     let rules = NameRules::of_name(names.name, prices.down);
-    Cost {
-        steps: STEPS_OF_NAME,
-        bytes: names_length(names, &rules, prices),
-    }
-    .times(names.variables.len())
-    .plus(element_cost(names.affixes, 0))
+    block_cost(names, prices)
+        .plus(name_cost(names, &rules, USUAL_INITIALS))
+        .times(names.variables.len())
+        .plus(element_cost(names.affixes, Cost::NOTHING))
 }
 
-/// How long what stands around the names of a variable is at most, with one of them.
-pub fn names_length(names: &NamesInUse<'_>, rules: &NameRules<'_>, prices: &Prices<'_>) -> usize {
+/// The cost of what stands around the names of a variable.
+pub fn block_cost(names: &NamesInUse<'_>, prices: &Prices<'_>) -> Cost {
     let label = match names.label {
         Some(label) => affixes_length(&label.options.affixes),
         None => 0,
     };
-    let words = prices.words.saturating_mul(WORDS_OF_NAMES);
     let delimiter = names.delimiter.unwrap_or(prices.names_delimiter);
-    words
-        .saturating_add(label)
-        .saturating_add(delimiter.len())
-        .saturating_add(name_length(names, rules))
+    let around = Cost::of_bytes(label.saturating_add(delimiter.len()));
+    prices.words.times(WORDS_OF_NAMES).plus(around)
 }
 
-/// How long what stands around a name is, with two initials.
-pub fn name_length(names: &NamesInUse<'_>, rules: &NameRules<'_>) -> usize {
+/// The cost of a name with so many initials, beside that of its parts.
+pub fn name_cost(names: &NamesInUse<'_>, rules: &NameRules<'_>, initials: usize) -> Cost {
     let own = match names.name {
         Some(name) => affixes_length(&name.affixes),
         None => 0,
     };
-    own.saturating_add(rules.delimiter.len())
-        .saturating_add(rules.sort_separator.len())
-        .saturating_add(part_length(rules.family))
-        .saturating_add(part_length(rules.given))
-        .saturating_add(initial_length(rules).saturating_mul(2))
-}
-
-/// How long what follows an initial is.
-pub fn initial_length(rules: &NameRules<'_>) -> usize {
-    rules.initialize_with.unwrap_or("").len()
+    let separator = rules.sort_separator.len();
+    let initial = rules.initialize_with.unwrap_or("").len();
+    Cost {
+        steps: markup_steps(initial, USUAL_SEPARATOR)
+            .saturating_mul(initials)
+            .saturating_add(markup_steps(separator, USUAL_SEPARATOR))
+            .saturating_add(STEPS_OF_NAME),
+        bytes: own
+            .saturating_add(rules.delimiter.len())
+            .saturating_add(separator)
+            .saturating_add(part_length(rules.family))
+            .saturating_add(part_length(rules.given))
+            .saturating_add(initial.saturating_mul(initials)),
+    }
 }
 
 fn part_length(part: Option<&NamePart>) -> usize {
@@ -154,7 +173,7 @@ fn substitute_cost(program: &Program<'_>, names_at: usize) -> Cost {
         _ => None,
     };
     match names {
-        Some(names) => element_cost(names.affixes, 0),
+        Some(names) => element_cost(names.affixes, Cost::NOTHING),
         None => Cost::STEP,
     }
 }

@@ -3,9 +3,7 @@ use crate::cite::{CiteFacts, SceneKind};
 use crate::walk::Walk;
 use cite_limits::cost::Cost;
 use cite_limits::error::{Excess, LimitError, StylePlace};
-use cite_limits::steps::{
-    Prices, STEPS_OF_NAME, initial_length, name_length, names_length, step_cost,
-};
+use cite_limits::steps::{Prices, STEPS_OF_NAME, block_cost, name_cost, step_cost};
 use cite_names::rules::NameRules;
 use cite_program::program::{NamesInUse, Step};
 use csl_references::name::Name;
@@ -91,18 +89,17 @@ impl<'s> Walk<'s, '_> {
     /// What the persons of names cost.
     fn price_of_names(&self, names: &NamesInUse<'s>, prices: &Prices<'s>) -> Cost {
         let rules = NameRules::of_name(names.name, prices.down);
-        let around = name_length(names, &rules);
         let mut cost = Cost::NOTHING;
         for variable in names.variables {
             let Some(persons) = self.cite.reference.names(*variable) else {
                 continue;
             };
-            cost = cost.plus(Cost::of_bytes(names_length(names, &rules, prices)));
+            cost = cost.plus(block_cost(names, prices));
             for name in persons {
-                cost = cost.plus(Cost {
-                    steps: STEPS_OF_NAME,
-                    bytes: length_of_name(name, initial_length(&rules)).saturating_add(around),
-                });
+                let initials = length_of_given(name);
+                cost = cost
+                    .plus(name_cost(names, &rules, initials))
+                    .plus(Cost::of_bytes(length_of_name(name)));
             }
         }
         cost
@@ -139,7 +136,7 @@ impl CiteFacts<'_> {
                 for name in self.reference.names(variable).unwrap_or(&[]) {
                     cost = cost.plus(Cost {
                         steps: STEPS_OF_NAME,
-                        bytes: length_of_name(name, 0),
+                        bytes: length_of_name(name),
                     });
                 }
                 cost
@@ -202,18 +199,21 @@ fn rich_length(text: Option<&RichText>) -> usize {
     length
 }
 
-/// The length of a name each of whose letters may be an initial, behind which so much stands.
-fn length_of_name(name: &Name, initial: usize) -> usize {
+/// The length of the names that a name has.
+fn length_of_name(name: &Name) -> usize {
     match name {
         Name::Literal(text) => text.len(),
         Name::Person(person) => {
-            let given = person.given.as_deref().unwrap_or("").len();
-            person
-                .family
-                .as_deref()
-                .unwrap_or("")
-                .len()
-                .saturating_add(given.saturating_mul(initial.saturating_add(1)))
+            let family = person.family.as_deref().unwrap_or("").len();
+            family.saturating_add(length_of_given(name))
         }
+    }
+}
+
+/// The length of a given name, which has as many initials at most.
+fn length_of_given(name: &Name) -> usize {
+    match name {
+        Name::Literal(_) => 0,
+        Name::Person(person) => person.given.as_deref().unwrap_or("").len(),
     }
 }

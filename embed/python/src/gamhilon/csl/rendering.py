@@ -157,7 +157,7 @@ def about(style: StyleLike) -> About:
 
 def check_style(text: StyleLike, file: str = 'the style') -> List[Warned]:
     """What is odd in a style, as `render` takes it; `file` is how places name a text. Raises
-    StyleMissing and StyleRefused, as `render` does."""
+    StyleMissing, StyleRefused and StyleLimitExceeded, as `render` does."""
     return _refuse(_of_style(load(style_of(text), file)))
 
 
