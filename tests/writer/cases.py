@@ -1,6 +1,8 @@
 """Small styles and references with the texts that the rules of CSL 1.0.2 ask for; each names the
 section of the specification that it follows. The texts are written by hand from these sections."""
 
+from alphabets import ALPHABETS
+
 BOOK = {'id': 'book', 'type': 'book', 'title': 'the art of rivers', 'author': [{'family': 'Roe', 'given': 'Jane Ann'}],
         'publisher': 'North Press', 'publisher-place': 'Oslo', 'edition': '2', 'volume': '4', 'number-of-pages': '312',
         'issued': {'date-parts': [[2001, 3, 9]]}}
@@ -547,9 +549,10 @@ CASES = [
     item('literal dates', 'pandoc, citeproc-js: a date without numbers stands behind the others, downwards too', TEXT,
          [{**PAGE, 'title': 'X', 'issued': {'literal': 'forthcoming'}}, person('a', 'A', 'A', 2000, title='Y')], ['Y', 'X'],
          bibliography_sort='<sort><key variable="issued" sort="descending"/></sort>'),
-    item('letters of a language', 'pandoc, Unicode’s collation for Swedish: å, ä and ö stand behind z', TEXT,
-         [{**PAGE, 'id': it, 'title': it} for it in ('Öberg', 'Åberg', 'Zola', 'Mann')], ['Mann', 'Zola', 'Åberg', 'Öberg'],
-         bibliography_sort='<sort><key variable="title"/></sort>', options='default-locale="sv-SE"'),
+    *(item('letters of ' + tag, 'ICU, Unicode’s collation for the language (alphabets.py)', TEXT,
+           [{**PAGE, 'id': it, 'title': it} for it in sorted(words.split(), reverse=True)], words.split(),
+           bibliography_sort='<sort><key variable="title"/></sort>', options='default-locale="%s"' % tag)
+      for tag, words in ALPHABETS.items()),
     item('accents of other languages', 'Unicode’s root collation: elsewhere they are letters with accents', TEXT,
          [{**PAGE, 'id': it, 'title': it} for it in ('Zola', 'Öberg', 'Mann', 'Åberg')], ['Åberg', 'Mann', 'Öberg', 'Zola'],
          bibliography_sort='<sort><key variable="title"/></sort>'),

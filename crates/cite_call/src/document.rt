@@ -5,6 +5,7 @@ use crate::reader::TextReader;
 use crate::texts::CallTexts;
 use cite_host::cites::Citation;
 use cite_json::listing::uncited;
+use cite_limits::cost::Cost;
 use cite_locale::tags::usual_tag;
 use cite_walk::abbreviations::Abbreviations;
 use csl_references::reference::References;
@@ -24,6 +25,8 @@ pub(crate) struct CallDocument {
     pub references: References,
     pub citations: Vec<Citation>,
     pub abbreviations: Option<Abbreviations>,
+    /// What the style may take for each cite and each item.
+    pub part: Cost,
     /// How many of the citations are the caller's, and not there to list items alone.
     pub shown: usize,
 }
@@ -48,7 +51,11 @@ impl TextReader {
             let uncited = uncited(alloc, &references, &citations)?;
             citations.push(uncited)?;
         }
-        let CallOptions { abbreviations, .. } = options;
+        let CallOptions {
+            abbreviations,
+            part,
+            ..
+        } = options;
         Ok(CallDocument {
             style,
             language,
@@ -56,6 +63,7 @@ impl TextReader {
             references,
             citations,
             abbreviations,
+            part,
             shown,
         })
     }

@@ -56,6 +56,11 @@ pub struct Options {
     pub lists_uncited: bool,
     /// The file of abbreviations.
     pub abbreviations: Option<String>,
+    /// How many steps the style may take for each cite and each item, where the command line says
+    /// it.
+    pub most_steps: Option<usize>,
+    /// How many bytes the style may write for each, where the command line says it.
+    pub most_bytes: Option<usize>,
     /// The files of references: the one that is named as a file first, then those of
     /// `--references`.
     pub references: Vec<String>,

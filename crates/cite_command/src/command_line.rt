@@ -95,7 +95,7 @@ fn writing<'a>(
 }
 
 /// The options of a command that writes, and its files.
-fn words<'a>(alloc: Global, citations: Arg<'a>) -> [Arg<'a>; 11] {
+fn words<'a>(alloc: Global, citations: Arg<'a>) -> [Arg<'a>; 13] {
     let formats: &'a [&'a str] = &["text", "html", "markdown", "latex", "json"];
     [
         style(alloc),
@@ -119,6 +119,16 @@ fn words<'a>(alloc: Global, citations: Arg<'a>) -> [Arg<'a>; 11] {
             alloc,
             "nocite",
             "References that aren't cited are listed, too",
+        ),
+        limit(
+            alloc,
+            "most-steps",
+            "How many steps the style may take for each cite and each item (5000)",
+        ),
+        limit(
+            alloc,
+            "most-bytes",
+            "How many bytes the style may write for each cite and each item (100000)",
         ),
         more(alloc),
         references(alloc),

@@ -112,6 +112,8 @@ fn options_in(alloc: Global, words: &ArgMatches<'_>) -> Result<Options, CommandL
         links_citations: false,
         lists_uncited: words.get_flag("nocite"),
         abbreviations: text_at(alloc, words, "abbreviations")?,
+        most_steps: words.get_one::<usize>("most-steps"),
+        most_bytes: words.get_one::<usize>("most-bytes"),
         references: references_in(alloc, words)?,
         citations: text_at(alloc, words, "CITATIONS")?,
     })

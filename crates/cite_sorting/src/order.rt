@@ -1,10 +1,11 @@
 //! The order of items.
-use crate::collation::CollationKey;
 use crate::keys::{Key, KeyScene};
+use cite_collation::key::CollationKey;
+use cite_limits::error::LimitError;
 use cite_program::build::program_of;
 use cite_program::program::ProgramError;
 use cite_walk::cite::CiteFacts;
-use std::alloc::{AllocError, Global};
+use std::alloc::Global;
 use std::cmp::Reverse;
 use std::mem::replace;
 use style_file::sections::{SortBy, SortDirection, SortKey};
@@ -39,13 +40,13 @@ pub fn keys_of<'s>(
 ///
 /// # Errors
 ///
-/// Where memory is refused.
+/// `Exceeded` where the keys take more than the budget has; `OutOfMemory`.
 pub fn sorted_places<'s>(
     alloc: Global,
     scene: KeyScene<'s>,
     keys: &'s [Key<'s>],
     cites: &[CiteFacts<'_>],
-) -> Result<Vec<usize>, AllocError> {
+) -> Result<Vec<usize>, LimitError> {
     let mut places = Vec::new(alloc);
     for ties in tied_places(alloc, scene, keys, cites)? {
         for place in ties {
@@ -60,13 +61,13 @@ pub fn sorted_places<'s>(
 ///
 /// # Errors
 ///
-/// Where memory is refused.
+/// `Exceeded` where the keys take more than the budget has; `OutOfMemory`.
 pub fn tied_places<'s>(
     alloc: Global,
     scene: KeyScene<'s>,
     keys: &'s [Key<'s>],
     cites: &[CiteFacts<'_>],
-) -> Result<Vec<Vec<usize>>, AllocError> {
+) -> Result<Vec<Vec<usize>>, LimitError> {
     let mut all = Vec::new(alloc);
     for (place, _) in cites.iter().enumerate() {
         all.push(place)?;
@@ -86,7 +87,7 @@ fn told_apart<'s>(
     key: &'s Key<'s>,
     cites: &[CiteFacts<'_>],
     ties: Vec<Vec<usize>>,
-) -> Result<Vec<Vec<usize>>, AllocError> {
+) -> Result<Vec<Vec<usize>>, LimitError> {
     let mut finer = Vec::new(alloc);
     for tied in ties {
         if tied.len() < 2 {
@@ -106,7 +107,7 @@ fn push_told_apart<'s>(
     cites: &[CiteFacts<'_>],
     tied: Vec<usize>,
     finer: &mut Vec<Vec<usize>>,
-) -> Result<(), AllocError> {
+) -> Result<(), LimitError> {
     let mut equal = Vec::new(alloc);
     let mut before = None;
     for Row { value, place } in sorted_rows(alloc, scene, key, cites, tied)? {
@@ -135,7 +136,7 @@ fn sorted_rows<'s>(
     key: &'s Key<'s>,
     cites: &[CiteFacts<'_>],
     places: Vec<usize>,
-) -> Result<Vec<Row>, AllocError> {
+) -> Result<Vec<Row>, LimitError> {
     let mut rows = Vec::new(alloc);
     for place in places {
         if let Some(cite) = cites.get(place) {

@@ -110,7 +110,8 @@ impl<'s, 'c> Walk<'s, 'c> {
             .is_some_and(|words| !words.is_empty())
     }
 
-    fn handed_down(&self) -> HandedDown<'s> {
+    /// What is handed down to names here.
+    pub(crate) fn handed_down(&self) -> HandedDown<'s> {
         let style = self.scene.style;
         HandedDown {
             section: &self.scene.names.name,
@@ -281,18 +282,22 @@ impl<'s, 'c> Walk<'s, 'c> {
     }
 
     fn names_element(&self, names: &NamesInUse<'s>) -> Element<'s> {
-        let handed_down = self
-            .scene
-            .names
-            .names_delimiter
-            .as_deref()
-            .or(self.scene.style.names.names_delimiter.as_deref());
         Element {
-            delimiter: names.delimiter.or(handed_down).unwrap_or(""),
+            delimiter: names.delimiter.unwrap_or(self.names_delimiter()),
             display: names.display,
             mark: self.author_mark(),
             ..element_with(names.affixes, names.formatting)
         }
+    }
+
+    /// What stands between the names of two variables where their element says nothing.
+    pub(crate) fn names_delimiter(&self) -> &'s str {
+        self.scene
+            .names
+            .names_delimiter
+            .as_deref()
+            .or(self.scene.style.names.names_delimiter.as_deref())
+            .unwrap_or("")
     }
 
     /// The form of each name of each block.

@@ -23,6 +23,17 @@ const LANGUAGE: &str = "en-US";
 pub(crate) struct FoundStyle {
     pub style: CslStyle,
     pub language: Option<String>,
+    /// Where its file is, or the name of one that is built in.
+    pub path: String,
+    /// The text of its file.
+    pub text: String,
+}
+
+/// What is in a style file, and its text.
+#[derive(Drop)]
+struct ReadStyle {
+    file: StyleFile,
+    text: String,
 }
 
 impl FoundStyle {
@@ -62,11 +73,23 @@ pub(crate) fn style_of(
         }
     }
     match style_at(rt, path.as_str()) {
-        Ok(StyleFile::Independent(style)) => Ok(FoundStyle {
+        Ok(
+            ReadStyle {
+                file: StyleFile::Independent(style),
+                text,
+            },
+        ) => Ok(FoundStyle {
             style,
             language: None,
+            path,
+            text,
         }),
-        Ok(StyleFile::Dependent(dependent)) => parent_of(rt, folder, path.as_str(), dependent),
+        Ok(
+            ReadStyle {
+                file: StyleFile::Dependent(dependent),
+                ..
+            },
+        ) => parent_of(rt, folder, path.as_str(), dependent),
         Err(CommandError::Unreadable { path, why }) => Err(no_style(rt, folder, name, path, why)?),
         Err(error) => Err(error),
     }
@@ -110,6 +133,8 @@ fn packaged(
         StyleFile::Independent(style) => Ok(FoundStyle {
             style,
             language: None,
+            path: String::from_str(rt.alloc(), name)?,
+            text: String::from_str(rt.alloc(), text)?,
         }),
         StyleFile::Dependent(_) => {
             let why = "it depends on another style";
@@ -143,9 +168,12 @@ fn style_path(
 fn style_at(
     rt: &(impl Files + Input + Eprint + AllocGlobal),
     path: &str,
-) -> Result<StyleFile, CommandError> {
+) -> Result<ReadStyle, CommandError> {
     let text = text_of(rt, path)?;
-    style_in(rt, path, text.as_str())
+    Ok(ReadStyle {
+        file: style_in(rt, path, text.as_str())?,
+        text,
+    })
 }
 
 /// The style in the text of a file. What is odd in it is printed.
@@ -178,11 +206,23 @@ fn parent_of(
     let name = last_part(parent.as_str());
     let parent = format!(in rt.alloc(); "{folder}/{name}.csl")?;
     match style_at(rt, parent.as_str()) {
-        Ok(StyleFile::Independent(style)) => Ok(FoundStyle {
+        Ok(
+            ReadStyle {
+                file: StyleFile::Independent(style),
+                text,
+            },
+        ) => Ok(FoundStyle {
             style,
             language: default_locale,
+            path: parent,
+            text,
         }),
-        Ok(StyleFile::Dependent(_)) => {
+        Ok(
+            ReadStyle {
+                file: StyleFile::Dependent(_),
+                ..
+            },
+        ) => {
             let why = "it depends on a style itself";
             Err(refused(rt.alloc(), parent.as_str(), &why)?)
         }

@@ -107,6 +107,32 @@ class MadeUpStyle(MadeUpLibrary):
         return self._put(b'{"warnings":[]}', 0, style, style_length, *given[-3:])
 
 
+class FaultyStyle(MadeUpStyle):
+    """A made-up style that is refused where its text has a mark, and warned of where it has the
+    words `odd here`, each with the line and the column of that."""
+
+    def __init__(self, mark):
+        super().__init__()
+        self.mark = mark
+
+    def gamhilon_cite(self, style, *given):
+        if self.mark.encode() in style:
+            return 2
+        return super().gamhilon_cite(style, *given)
+
+    def gamhilon_find_cite_fault(self, style, style_length, *given):
+        text = style.decode()
+        found = {'warnings': [_at(text, 'odd here', 'it is odd')] if 'odd here' in text else []}
+        if self.mark in text:
+            found['fault'] = _at(text, self.mark, 'it is wrong')
+        return self._put(json.dumps(found).encode(), 0, style, style_length, *given[-3:])
+
+
+def _at(text, mark, message):
+    before = text[:text.index(mark)].split('\n')
+    return {'file': 'style', 'message': message, 'line': len(before), 'column': len(before[-1]) + 1}
+
+
 class NumberedStyle(MadeUpStyle):
     """Stands in for a library that writes by style files: works are numbered in the order in which
     they are cited, whatever the style says."""

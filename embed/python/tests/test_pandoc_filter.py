@@ -225,7 +225,7 @@ def test_texts_that_nest_deeply(pandoc):
     (', § 3', ('section', '3'), ''),
     (', ¶¶ 3-4', ('paragraph', '3–4'), ''), (', col. 3', ('column', '3'), ''),
     (', no. 3', ('issue', '3'), ''), (', s.v. 3', ('sub-verbo', '3'), ''),
-    (', {} x', None, ', {} x'),
+    (', {} x', None, ' x'), ('{}, 99 x', None, ', 99 x'),
     (', bookish', None, ', bookish'),
     (', pseudo 3', None, ', pseudo 3'), (', vol. 2, p. 3', ('volume', '2'), ', p. 3'),
     ('', None, ''),

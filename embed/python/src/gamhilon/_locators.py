@@ -102,6 +102,8 @@ class _Suffix:
         if found is None:
             return None, ''.join(self.tokens)
         kind, text, end = found
+        if not text.strip():
+            return None, ''.join(self.tokens[end:])
         numbers = re.sub(rf'(?<=[\w)])\s*[{_DASHES}]+\s*(?=[\w(])', '\u2013', text.strip())
         return Locator(kind, numbers), ''.join(self.tokens[end:])
 
@@ -115,7 +117,8 @@ class _Suffix:
         return at + self._token(at).isspace()
 
     def _braced(self, at: int) -> Optional[Tuple[str, str, int]]:
-        """A locator in braces: its kind, its text, and where it ends."""
+        """A locator in braces: its kind, its text, and where it ends. It is empty where the braces
+        say that there is none, whatever follows."""
         if self._token(at) != '{':
             return None
         closing = self._closing(at)
@@ -125,7 +128,7 @@ class _Suffix:
         at = self._past_space(at + 1)
         kind, start = self._word(at, lambda place: place < end) or ('page', at)
         text = ''.join(self.tokens[start:end])
-        return (kind, text, end + 1) if text.strip() else None
+        return kind, text, end + 1
 
     def _closing(self, at: int) -> Optional[int]:
         """Where the brace that opens here closes."""

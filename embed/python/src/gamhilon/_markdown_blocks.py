@@ -4,9 +4,9 @@ from __future__ import annotations
 
 import re
 from dataclasses import dataclass, field
-from typing import Dict, Iterator, List, NamedTuple, Optional, Tuple
+from typing import Dict, Iterator, List, NamedTuple, Optional, Set, Tuple
 
-__all__ = ['Blocks', 'Heading', 'Paragraph', 'blocks_of', 'front_matter_in']
+__all__ = ['Blocks', 'Heading', 'Paragraph', 'blocks_of', 'front_matter_in', 'label_of']
 
 _FRONT_MATTER = re.compile(
     r'\ufeff?(?:---[ \t]*\n.*?^(?:---|\.\.\.)[ \t]*$|\+\+\+[ \t]*\n.*?^\+\+\+[ \t]*$)',
@@ -15,17 +15,23 @@ _QUOTE = re.compile(r'(?:[ \t]{0,3}>[ \t]?)+')
 _FENCE = re.compile(r'(`{3,})(?!.*`)|(~{3,})')
 _LIST = re.compile(r'(?:[-+*]|\(?(?:\d{1,9}|[A-Za-z#])[.)]|\(@[\w-]*\)|:)(?=[ \t])')
 _NOTE = re.compile(r'\[\^([^\]\s]+)\]:[ \t]*')
-_LINK = re.compile(r'\[(?!\^)(?:\\.|[^\[\]\\])+\]:')
+_LINK = re.compile(
+    r'\[(?!\^)(?P<label>(?:\\.|[^\[\]\\])+)\]:[ \t]*(?:\n[ \t]*(?:>[ \t]?)*)?'
+    r'(?P<target><[^<>\n]*>|[^\s<]\S*)'
+    r'(?:(?:[ \t]+|[ \t]*\n[ \t]*(?:>[ \t]?)*)(?:"[^"\n]*"|\'[^\'\n]*\'|\([^()\n]*\)))?'
+    r'(?:[ \t]*\{[^{}\n]*\})?[ \t]*$', re.MULTILINE)
+_ADDRESS = re.compile(r'[</#.]|[A-Za-z][A-Za-z0-9+.-]*:')
 _CONTAINER = re.compile(r'(?:!!!|\?\?\?\+?|===[+!]?)[ \t]+\S')
 _DIV = re.compile(r'(:{3,})[ \t]*(.*?)[ \t:]*$')
 _HEADING = re.compile(r'(#{1,6})(?:[ \t]+(.*?))?[ \t]*#*[ \t]*$')
 _UNDERLINE = re.compile(r'(=+|-+)[ \t]*$')
 _RULE = re.compile(r'(?:[-*_][ \t]*){3,}$')
 _ATTRIBUTES = re.compile(r'[ \t]*\{[^{}]*\}$')
+_END_OF_COMMENT = '-->'
 _RAW_STARTS = (
     (re.compile(r'<(script|pre|style|textarea)\b', re.IGNORECASE), None),
-    (re.compile('<!--'), '-->'), (re.compile(r'<\?'), '?>'), (re.compile(r'<!\[CDATA\['), ']]>'),
-    (re.compile('<![A-Z]'), '>'),
+    (re.compile('<!--'), _END_OF_COMMENT), (re.compile(r'<\?'), '?>'),
+    (re.compile(r'<!\[CDATA\['), ']]>'), (re.compile('<![A-Z]'), '>'),
 )
 _BLOCK_TAG = re.compile(
     r'</?(?:address|article|aside|base|blockquote|body|caption|center|col|colgroup|dd|details'
@@ -59,12 +65,14 @@ class Heading(NamedTuple):
 @dataclass
 class Blocks:
     """The blocks of a page: its paragraphs, its headings, the `div` of the id `refs` with its
-    fences or tags, and the labels of the notes that it defines, each with the place of that."""
+    fences or tags, the labels of the notes that it defines, each with the place of that, and the
+    labels to which links refer."""
 
     paragraphs: List[Paragraph] = field(default_factory=list)
     headings: List[Heading] = field(default_factory=list)
     references: Optional[Tuple[int, int]] = None
     notes: Dict[str, int] = field(default_factory=dict)
+    labels: Set[str] = field(default_factory=set)
 
 
 class _Line(NamedTuple):
@@ -78,10 +86,12 @@ class _Line(NamedTuple):
 
 
 class _Container(NamedTuple):
-    """A list item, the definition of a note and the like: how far what is in it is indented."""
+    """A list item, the definition of a note and the like: how far what is in it is indented, and
+    whether it is of a block quote."""
 
     indent: int
     note: Optional[str]
+    is_quoted: bool
 
 
 def front_matter_in(text: str) -> str:
@@ -90,6 +100,11 @@ def front_matter_in(text: str) -> str:
     front = _FRONT_MATTER.match(text.replace('\r\n', '\n'))
     lines = front.group().lstrip('\ufeff').split('\n') if front else []
     return '\n'.join(['', *lines[1:-1], '']) if lines and lines[0].startswith('-') else ''
+
+
+def label_of(text: str) -> str:
+    """A label of links as it is compared: without regard to case and white space."""
+    return ' '.join(text.split()).casefold()
 
 
 def blocks_of(text: str) -> Blocks:
@@ -159,7 +174,24 @@ class _Reader:
         said = self.text[line.start:line.end]
         if self.raw_until == '' and not said.strip() or self.raw_until and \
                 self.raw_until in said.lower():
+            is_comment = self.raw_until == _END_OF_COMMENT
             self.raw_until = None
+            if is_comment:
+                self._begin_behind(line)
+
+    def _has_text(self, said: str) -> bool:
+        """Whether a line that begins with a comment is text: it ends the comment, and more follows
+        it or a paragraph is open."""
+        _, closing, rest = said.partition(_END_OF_COMMENT)
+        return bool(closing) and bool(self.open or rest.strip())
+
+    def _begin_behind(self, line: _Line) -> None:
+        """Begins what stands on the line of the end of a comment."""
+        at = self.text.index(_END_OF_COMMENT, line.start) + len(_END_OF_COMMENT)
+        while at < line.end and self.text[at] in ' \t\r':
+            at += 1
+        if at < line.end:
+            self._begin(line._replace(at=at))
 
     def _begins_raw(self, line: _Line) -> bool:
         """Whether a line begins raw HTML, as CommonMark has it; what follows is raw up to its end.
@@ -169,6 +201,8 @@ class _Reader:
             match = pattern.match(said)
             if match:
                 until = end or f'</{match.group(1).lower()}'
+                if until == _END_OF_COMMENT and self._has_text(said):
+                    return False
                 self.raw_until = None if until in said[match.end():].lower() else until
                 return True
         if _REFERENCES.match(said):
@@ -188,8 +222,10 @@ class _Reader:
 
     def _begin(self, line: _Line) -> None:
         """A line that isn't blank, outside of code and raw HTML."""
-        while self.containers and line.indent < self.containers[-1].indent and (
-                self.open is None or self._begins_block(line)):
+        while self.containers and not self._is_inside(line, self.containers[-1]):
+            if self.open is not None and not self._begins_block(line):
+                break
+            self._close()
             self.containers.pop()
         inner = self.containers[-1].indent if self.containers else 0
         if self.open is None and line.indent - inner >= 4:
@@ -202,6 +238,9 @@ class _Reader:
                 return
         begin = self.open[0] if self.open else line.at
         self.open = begin, line.end
+
+    def _is_inside(self, line: _Line, container: _Container) -> bool:
+        return line.indent >= container.indent and line.is_quoted == container.is_quoted
 
     def _takes_item(self, line: _Line, said: str) -> bool:
         """Whether a line begins an item of a list."""
@@ -232,7 +271,7 @@ class _Reader:
     def _enter(self, line: _Line, at: int, indent: int, note: Optional[str] = None) -> None:
         """What stands on the line of a list's mark, and is indented by as much on the next ones."""
         label = note or (self.containers[-1].note if self.containers else None)
-        self.containers.append(_Container(indent, label))
+        self.containers.append(_Container(indent, label, line.is_quoted))
         if at < line.end:
             self._begin(_Line(line.start, at, line.end, indent, line.is_quoted))
 
@@ -267,13 +306,22 @@ class _Reader:
             self._takes_div(line, div.group(1), div.group(2))
         elif _CONTAINER.match(said):
             self._close()
-            self.containers.append(_Container(line.indent + 4, None))
-        elif self.open is None and _LINK.match(said):
+            self.containers.append(_Container(line.indent + 4, None, line.is_quoted))
+        elif self.open is None and self._defines_link(line):
             pass
         elif said[0] == '<' and self._begins_raw(line):
             self._close()
         else:
             return False
+        return True
+
+    def _defines_link(self, line: _Line) -> bool:
+        """Whether a line says where the links of a label lead. (Those of one that looks like a
+        citation lead to an address, and not to a word behind a colon.)"""
+        found = _LINK.match(self.text, line.at)
+        if found is None or '@' in found['label'] and not _ADDRESS.match(found['target']):
+            return False
+        self.found.labels.add(label_of(found['label']))
         return True
 
     def _takes_div(self, line: _Line, fence: str, name: str) -> None:

@@ -2,10 +2,12 @@
 from __future__ import annotations
 
 import re
-from typing import Dict, List, Optional, Pattern, Tuple
+from typing import Dict, List, NamedTuple, Optional, Pattern, Tuple
 
 MARKS = '*_"\''
 """What emphasis and quotes stand between."""
+
+_CLOSING_MARKS = {'\u201c': '\u201d', '\u2018': '\u2019'}
 
 SPACES = re.compile(r'[ \t\u00a0]*(?:\n(?!\s*\n)[ \t]*(?:>[ \t]?)*)?[ \t\u00a0]*')
 """White space within a paragraph: at most one line feed, with the marks of a block quote."""
@@ -15,6 +17,7 @@ WORD = re.compile(r'(?:[^\W_]|\.(?!\.))+')
 
 _BEGINS_ADDRESS = r'(?:https?://|mailto:|www\.)'
 _PARTS_OF_ADDRESS = ('://', 'mailto:', 'www.')
+_MARK_OF_EMPHASIS = re.compile(r'[*_\\`<$]')
 _MARK_OF_PAIRS = re.compile(r'[\[\]\\`<${]')
 _MARK_OR_ADDRESS = re.compile(rf'[\[\]\\`<${{]|(?<![^\W_]){_BEGINS_ADDRESS}')
 
@@ -30,7 +33,7 @@ def _plain(others: str, more: str = '') -> Tuple[Pattern[str], Pattern[str]]:
 
 _OTHERS = r'\\`<{$!\[^*"\'.@'
 _PLAIN = _plain(_OTHERS)
-_PLAIN_IN_CITE = _plain(_OTHERS + ';-', '|-(?!@)')
+_PLAIN_IN_CITE = _plain(_OTHERS + ';\u201c\u2018~-', '|-(?!@)')
 
 _TAG = re.compile(
     r'<!--.*?-->|<\?.*?\?>|<![A-Z][^>]*>|<!\[CDATA\[.*?\]\]>'
@@ -57,6 +60,13 @@ _OPAQUE: Dict[str, Tuple[Pattern[str], ...]] = {
 _TARGETS = {'(': _DESTINATION, '{': _ATTRIBUTES}
 
 
+class _Opened(NamedTuple):
+    """Marks of an emphasis that is open: where they are, and how many."""
+
+    start: int
+    length: int
+
+
 class InlineReader:
     """Where the inline elements of a paragraph end."""
 
@@ -66,6 +76,7 @@ class InlineReader:
         self.plain, self.plain_in_cite = _PLAIN[has_address], _PLAIN_IN_CITE[has_address]
         self._mark = _MARK_OR_ADDRESS if has_address else _MARK_OF_PAIRS
         self._closing = self._pairs()
+        self._emphases: Optional[Dict[int, int]] = None
 
     def end_of_inline(self, at: int, end: int) -> int:
         """Where the element that begins at a place ends: an escaped letter, code, math, a link, a
@@ -81,7 +92,9 @@ class InlineReader:
         if self.text.startswith(('[', '![', '^['), at):
             return self._bracketed(at, end)
         if letter in MARKS:
-            return self._between_marks(at, end)
+            return self._emphasized(at, end) if letter in '*_' else self._quoted(at, end)
+        if letter in _CLOSING_MARKS or self.text.startswith('~~', at):
+            return self._quoted(at, end)
         word = WORD.match(self.text, at, end)
         return word.end() if word else at + 1
 
@@ -156,18 +169,62 @@ class InlineReader:
             at += 1
         return at
 
-    def _between_marks(self, at: int, end: int) -> int:
-        """Where emphasis or a quote ends; where none closes, its marks do."""
-        mark, text = self.text[at], self.text
-        run = self._run(at, end) if mark in '*_' else at + 1
-        before = text[at - 1] if at else ' '
-        if run >= end or text[run].isspace() or mark != '*' and before.isalnum():
-            return run
-        place = text.find(text[at:run], run, end)
+    def _emphasized(self, at: int, end: int) -> int:
+        """Where emphasis ends; where none closes, its marks do."""
+        if self._emphases is None:
+            self._emphases = self._all_emphases()
+        closing = self._emphases.get(at, end + 1)
+        return closing if closing <= end else self._run(at, end)
+
+    def _all_emphases(self) -> Dict[int, int]:
+        """The emphases of the text: where each one that begins ends."""
+        found: Dict[int, int] = {}
+        opened: Dict[str, List[_Opened]] = {'*': [], '_': []}
+        end = len(self.text)
+        mark = _MARK_OF_EMPHASIS.search(self.text)
+        while mark is not None:
+            at = mark.start()
+            letter = self.text[at]
+            if letter in '*_':
+                after = self._run(at, end)
+                self._take_run(opened[letter], found, at, after)
+            elif letter in '\\`':
+                after = min(at + 2, end) if letter == '\\' else self._code(at, end)
+            else:
+                after = self.end_of_opaque(at, end) or at + 1
+            mark = _MARK_OF_EMPHASIS.search(self.text, after)
+        return found
+
+    def _take_run(self, opened: List[_Opened], found: Dict[int, int], at: int, after: int) -> None:
+        """A run of marks, which ends emphases that are open, or opens one."""
+        letter = self.text[at]
+        before, behind = self.text[at - 1:at] or ' ', self.text[after:after + 1] or ' '
+        start = at
+        if not before.isspace() and (letter == '*' or not behind.isalnum()):
+            while at < after and opened and (after - at >= opened[-1].length
+                                             or opened[-1].length == 3):
+                last = opened.pop()
+                taken = min(after - at, last.length)
+                at += taken
+                if taken == last.length:
+                    found[last.start] = at
+                else:
+                    opened.append(_Opened(last.start, last.length - taken))
+        if at == start and not behind.isspace() and (letter == '*' or not before.isalnum()):
+            opened.append(_Opened(at, after - at))
+
+    def _quoted(self, at: int, end: int) -> int:
+        """Where a quote ends, or a text that is struck out; where none closes, its mark does."""
+        text = self.text
+        opening = '~~' if text.startswith('~~', at) else text[at]
+        mark, inside = _CLOSING_MARKS.get(opening, opening), at + len(opening)
+        if inside >= end or text[inside].isspace() or at and text[at - 1].isalnum():
+            return inside
+        place = text.find(mark, inside, end)
         while place >= 0:
-            after = place + run - at
+            after = place + len(mark)
             is_closing = not text[place - 1].isspace() and text[place - 1] != '\\'
-            if is_closing and (mark == '*' or after >= end or not text[after].isalnum()):
+            if is_closing and (after >= end or not text[after].isalnum()):
                 return after
-            place = text.find(text[at:run], after, end)
-        return run
+            place = text.find(mark, after, end)
+        return inside

@@ -21,6 +21,12 @@ class Sample:
     bibliography: Optional[Bibliography]
     warnings: List[csl.Warned]
 
+    def remarks(self) -> List[str]:
+        """What is odd, a line each, with the citation in which it is by its name."""
+        names = list(self.citations)
+        return [str(warned) if warned.citation is None
+                else f'{names[warned.citation]}: {warned.message}' for warned in self.warnings]
+
 
 def sample_of(style: str, locale: Optional[str], locales: Optional[str]) -> Sample:
     """The sample of a style: its name, its path, or `-` for standard input. Raises as `csl.render`

@@ -14,7 +14,7 @@ from .html_writer import bibliography_to_html, to_html
 from .latex_writer import bibliography_to_latex, to_latex
 from .markdown_writer import bibliography_to_markdown, to_markdown
 
-__all__ = ['DIFFERENT', 'SAMPLE_FORMS', 'diff_command', 'sample_command']
+__all__ = ['DIFFERENT', 'SAMPLE_FORMS', 'diff_command', 'sample_command', 'sample_in_html']
 
 DIFFERENT = 11
 """The exit status where texts aren't those that are asked for."""
@@ -66,16 +66,9 @@ def _sampled(style: str, locale: Optional[str], locales: Optional[str]) -> Sampl
     except ValueError as error:
         say(str(error))
         raise _Failed(NOT_OF_ITS_FORM) from error
-    for warned in sample.warnings:
-        say(f'warning: {_place(sample, warned)}')
+    for remark in sample.remarks():
+        say(f'warning: {remark}')
     return sample
-
-
-def _place(sample: Sample, warned: csl.Warned) -> str:
-    """What is odd, with the citation in which it is by its name."""
-    if warned.citation is None:
-        return str(warned)
-    return f'{list(sample.citations)[warned.citation]}: {warned.message}'
 
 
 # The page
@@ -91,12 +84,16 @@ def _text(sample: Sample) -> str:
     return ''.join(f'{line}\n' for line in lines)
 
 
-def _html(sample: Sample) -> str:
+def sample_in_html(sample: Sample) -> str:
+    """What a page of HTML has of a sample: its title, its citations and its list."""
     rows = [f'<tr><th>{html.escape(name)}</th><td>{to_html(citation)}</td></tr>\n'
             for name, citation in sample.citations.items()]
-    content = (f'<h1>{html.escape(sample.title)}</h1>\n<table class="csl-sample">\n'
-               f'{"".join(rows)}</table>\n{bibliography_to_html(sample.bibliography)}')
-    return pages.standalone(content)
+    return (f'<h1>{html.escape(sample.title)}</h1>\n<table class="csl-sample">\n'
+            f'{"".join(rows)}</table>\n{bibliography_to_html(sample.bibliography)}')
+
+
+def _html(sample: Sample) -> str:
+    return pages.standalone(sample_in_html(sample))
 
 
 def _markdown(sample: Sample) -> str:

@@ -11,9 +11,11 @@ from __future__ import annotations
 
 import re
 from dataclasses import dataclass, replace
-from typing import FrozenSet, Iterator, List, Mapping, NamedTuple, Optional, Sequence, Tuple, Union
+from typing import (Collection, Iterator, List, Mapping, NamedTuple, Optional, Sequence, Tuple,
+                    Union)
 
 from . import _locators
+from ._markdown_blocks import blocks_of, label_of
 from ._markdown_inlines import MARKS, SPACES, WORD, InlineReader
 from .csl.cites import Cite, CiteSequence
 from .csl.locales import Locales
@@ -22,7 +24,6 @@ from .errors import GamhilonError
 __all__ = ['CitationTextRefused', 'TextCitation', 'find_citations', 'parse_citations']
 
 _KEY = re.compile(r'[\w*](?:\w|[:.#$%&+?<>~/-](?=\w)|[:/](?=/))*')
-_DEFINITION = re.compile(r'^ {0,3}\[(?!\^)((?:\\.|[^\[\]\\])+)\]:', re.MULTILINE)
 
 
 class CitationTextRefused(GamhilonError, ValueError):
@@ -89,18 +90,8 @@ def find_citations(text: str, *, language: Optional[str] = None,
         False ['roe', 'poe'] 22 38
     """
     words = _locators.words_of(language, locales)
-    return list(CitationReader(text, words, labels_in(text)).citations(0, len(text)))
-
-
-def labels_in(text: str) -> FrozenSet[str]:
-    """The labels to which links of a page may refer."""
-    if ']:' not in text:
-        return frozenset()
-    return frozenset(_label(match.group(1)) for match in _DEFINITION.finditer(text))
-
-
-def _label(text: str) -> str:
-    return ' '.join(text.split()).casefold()
+    labels = blocks_of(text).labels if ']:' in text else ()
+    return list(CitationReader(text, words, labels).citations(0, len(text)))
 
 
 class NoteMark(NamedTuple):
@@ -124,7 +115,7 @@ class CitationReader(InlineReader):
     """Reads the citations of a text. `labels` are those to which links refer."""
 
     def __init__(self, text: str, words: Mapping[str, str],
-                 labels: FrozenSet[str] = frozenset()) -> None:
+                 labels: Collection[str] = ()) -> None:
         super().__init__(text)
         self.words, self.labels = words, labels
 
@@ -228,7 +219,7 @@ class CitationReader(InlineReader):
     def _is_referred(self, opening: int, closing: int) -> bool:
         """Whether brackets are a link by a label, or a mark of a footnote."""
         inside = self.text[opening + 1:closing]
-        return inside.startswith('^') or bool(self.labels) and _label(inside) in self.labels
+        return inside.startswith('^') or bool(self.labels) and label_of(inside) in self.labels
 
     def in_brackets(self, at: int, end: int) -> Optional[TextCitation]:
         """A citation in brackets that begins at a place."""

@@ -28,7 +28,7 @@ from ._page_cites import (CitationOfPage, CitationWriter, Written, capitalized, 
 from ._page_writers import HtmlInMarkdown, PageWriter, heading
 from ._writing import anchor
 from .answer import Bibliography, Tree
-from .citation_text import CitationReader, NoteMark, TextCitation, labels_in
+from .citation_text import CitationReader, NoteMark, TextCitation
 from .csl.handed_in import read_of
 
 __all__ = ['CitedPage', 'PageWarning', 'PreparedStyle', 'Site', 'cite_page']
@@ -373,7 +373,7 @@ class _Collector:
 
     def __init__(self, site: Site, page: _Page) -> None:
         self.site, self.page = site, page
-        self.labels = labels_in(page.text)
+        self.labels = page.blocks.labels
         self.left: Dict[str, List[Paragraph]] = {}
         for paragraph in page.blocks.paragraphs:
             if paragraph.note is not None:

@@ -2,6 +2,7 @@
 `cite` and `bibliography`."""
 from __future__ import annotations
 
+import html
 import json
 from typing import Any, Callable, Dict, List
 
@@ -19,10 +20,10 @@ _PAGE = """<!DOCTYPE html>
 <head>
 <meta charset="utf-8">
 <meta name="viewport" content="width=device-width, initial-scale=1">
-<title>Citations</title>
+<title>{title}</title>
 <style>
 {style_sheet}</style>
-</head>
+{head}</head>
 <body>
 {content}</body>
 </html>
@@ -74,9 +75,10 @@ def _line(item: Item) -> str:
     return f'{plain(item.first_field).rstrip()} {plain(item.content)}'
 
 
-def standalone(content: str) -> str:
-    """A whole page of HTML, with the style sheet of reference lists."""
-    return _PAGE.format(style_sheet=style_sheet(), content=content)
+def standalone(content: str, title: str = 'Citations', head: str = '') -> str:
+    """A whole page of HTML, with the style sheet of reference lists, and more that its head has."""
+    return _PAGE.format(title=html.escape(title), style_sheet=style_sheet(), head=head,
+                        content=content)
 
 
 def _keys(document: Dict[str, Any]) -> List[List[str]]:

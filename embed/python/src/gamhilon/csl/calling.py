@@ -2,13 +2,13 @@
 from __future__ import annotations
 
 import json
-from dataclasses import dataclass
-from typing import Any, Dict, List, Optional, Sequence
+from dataclasses import dataclass, replace
+from typing import Any, Dict, List, Mapping, Optional, Sequence
 
 from .._citing import cite_texts
 from .._library import CiteTexts
 from ..answer import Answer
-from ..errors import TextRefused
+from ..errors import StyleLimitExceeded, TextRefused
 from ..texts import TextFault, TextWarning
 from .abbreviations import Abbreviations
 from .cites import Citation
@@ -23,7 +23,7 @@ from .warned import Warned
 @dataclass(frozen=True)
 class Document:
     """What is rendered: a style, locale files, entries, citations, the language in place of the
-    style's, and abbreviations."""
+    style's, abbreviations, and limits in place of the usual ones."""
 
     style: Style
     locales: Sequence[LocaleFile]
@@ -31,21 +31,31 @@ class Document:
     citations: Sequence[Citation]
     language: str
     abbreviations: Optional[Abbreviations] = None
+    limits: Optional[Mapping[str, int]] = None
 
     def answer(self, warns: bool = True) -> Answer:
         """The answer, with what is odd unless that isn't asked for. Raises TextRefused where a part
-        of the document is wrong; NumberOverflow or OutOfMemory; and LibraryMissing."""
+        of the document is wrong; StyleLimitExceeded, NumberOverflow or OutOfMemory; and
+        LibraryMissing."""
+        try:
+            return cite_texts(self._texts(), warns)
+        except StyleLimitExceeded as refusal:
+            raise self._excess(refusal) from None
+
+    def _texts(self) -> CiteTexts:
         citations = ', '.join([citation.json for citation in self.citations])
-        return cite_texts(CiteTexts(
+        return CiteTexts(
             style=bytes_of(self.style.text), items=json_of(self.entries),
             citations=f'[{citations}]'.encode('utf-8', 'replace'),
             locales=json_of([locale.text for locale in self.locales]),
-            options=json_of(self._options())), warns)
+            options=json_of(self._options()))
 
     def _options(self) -> Dict[str, Any]:
         options: Dict[str, Any] = {'locale': self.language}
         if self.abbreviations is not None:
             options['abbreviations'] = self.abbreviations.value
+        if self.limits:
+            options['limits'] = dict(self.limits)
         return options
 
     def warned(self, remark: TextWarning) -> Warned:
@@ -75,6 +85,11 @@ class Document:
         if fault.file == 'options' and self.abbreviations is not None:
             return AbbreviationsRefused(self.abbreviations.file, None, None, _at_part(fault))
         return StyleRefused(self._file(fault.file), fault.line, fault.column, fault.message)
+
+    def _excess(self, refusal: StyleLimitExceeded) -> StyleLimitExceeded:
+        """What the style exceeds, with the name of its file."""
+        fault = refusal.fault
+        return StyleLimitExceeded(fault and replace(fault, file=self._file(fault.file)))
 
     def _file(self, file: str) -> str:
         """How messages name a text of the document."""
