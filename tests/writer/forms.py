@@ -45,7 +45,7 @@ LAYOUTS = {
 STYLE = ('<style xmlns="http://purl.org/net/xbiblio/csl" class="in-text" version="1.0"><info><title>T</title><id>T</id>'
          '<updated>2026-01-01T00:00:00+00:00</updated></info><citation><layout>%s</layout></citation>'
          '<bibliography hanging-indent="true"%s><layout>%s</layout></bibliography></style>')
-# Of a work, each field of which may have an address.
+# The fields of a work that may have an address.
 LISTED = ('<text variable="citation-number" suffix=". "/><text variable="title"/><text variable="note" prefix=" "/>'
           '<text variable="abstract" display="block"/><text variable="URL" prefix=" "/><text variable="DOI" prefix=" "/>')
 NOTES = ['see http://example.org/a_b?c=1&d=~e#f.', '(https://example.org/(a)), 10.1000/a_b<c>', 'x10.1000/a 10.12/b 10.1234567890/c',
@@ -147,8 +147,8 @@ def paragraphs_of(text, form):
 
 
 def shown(block):
-    """The letters of a paragraph, of which white space is one space and has no formatting, and
-    nothing at the ends."""
+    """The letters of a paragraph. White space is one space without formatting, and nothing at the
+    ends."""
     if block['t'] != 'Para':
         raise Failed('pandoc reads %r' % block)
     kept = [(' ', frozenset())]

@@ -309,7 +309,7 @@ fn print_list(
     Ok(println!(rt; "</div>")?)
 }
 
-/// An item as a block, to which its cites lead.
+/// An item as a block, with the target of its cites.
 fn item_block(
     alloc: Global,
     form: Form,

@@ -34,9 +34,10 @@ pub fn written_item(
     }
 }
 
-/// An item of a bibliography, of this text, as a block to which cites with this target lead: a
-/// `div` of HTML, a paragraph of Markdown or LaTeX, and the text alone where the form is text. Where
-/// `is_hanging`, the lines of a paragraph of LaTeX are indented, but for the first.
+/// An item of a bibliography as a block: its text, as [`written_item`] gives it, with the target of
+/// its cites. The block is a `div` of HTML, a paragraph of Markdown or LaTeX, and the text alone
+/// where the form is text. Where `is_hanging`, the lines of a paragraph of LaTeX are indented, but
+/// for the first.
 ///
 /// # Errors
 ///

@@ -1,4 +1,4 @@
-//! Streams of pieces in the forms in which citations and bibliographies are written.
+//! The forms of what is written: streams of pieces as text, HTML, Markdown and LaTeX.
 #![tactic(auto)]
 
 pub mod forms;

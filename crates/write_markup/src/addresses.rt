@@ -4,7 +4,7 @@ use crate::spans::{Kind, Span, spans};
 use csl_texts::addresses::url_address;
 use std::alloc::{AllocError, Global};
 
-/// The runs, in which each URL and each DOI of a text is a text of its own that leads there. Texts
+/// The runs, with a text of its own for each URL and each DOI of a text, which leads there. Texts
 /// that lead somewhere stay.
 ///
 /// # Errors
@@ -25,7 +25,7 @@ pub(crate) fn with_addresses(alloc: Global, runs: Vec<Run>) -> Result<Vec<Run>, 
     Ok(out)
 }
 
-/// The runs, in which neighbouring texts of one formatting are one text.
+/// The runs, with one text for neighbouring texts of one formatting.
 fn joined(alloc: Global, runs: Vec<Run>) -> Result<Vec<Run>, AllocError> {
     let mut joined = Vec::new(alloc);
     for run in runs {
@@ -64,8 +64,8 @@ fn first_letter(run: Option<&Run>) -> Option<char> {
     }
 }
 
-/// Adds a text, in which each address is a text of its own; `after` is the first letter of a text
-/// behind it.
+/// Adds a text, with a text of its own for each address; `after` is the first letter of a text that
+/// follows.
 fn push_parts(
     alloc: Global,
     out: &mut Vec<Run>,

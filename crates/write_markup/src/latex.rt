@@ -45,8 +45,8 @@ pub fn latex_item(alloc: Global, item: &ItemRuns) -> Result<String, AllocError> 
     format!(in alloc; "{field}\\quad {content}")
 }
 
-/// An item of a bibliography, of this text, to which cites with this target lead: a paragraph.
-/// Where `is_hanging`, its lines are indented, but for the first.
+/// An item of a bibliography with this text, and with the target of its cites: a paragraph. Where
+/// `is_hanging`, its lines are indented, but for the first.
 ///
 /// # Errors
 ///

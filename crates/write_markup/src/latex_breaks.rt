@@ -1,7 +1,7 @@
 //! Where lines may break in an address that is shown.
 use std::alloc::{AllocError, Global};
 
-/// Whether a text is the address to which it leads: a URL or a DOI.
+/// Whether a text is an address: a URL or a DOI.
 pub(crate) fn is_address(text: &str) -> bool {
     let is_word = !text.chars().any(|c| c.is_whitespace());
     is_word && (has_name_behind_scheme(text) || is_doi(text))

@@ -56,7 +56,7 @@ fn escape_of_sign(c: char) -> Option<&'static str> {
     Some(escape)
 }
 
-/// What stands for a letter for which LaTeX has no glyph, unless its engine is one of Unicode.
+/// What stands for a letter that LaTeX has no glyph for, unless its engine is one of Unicode.
 fn escape_of_space(c: char) -> Option<&'static str> {
     let escape = match c {
         '\u{a0}' => "~",

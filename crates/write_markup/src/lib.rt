@@ -1,7 +1,7 @@
 //! Trees in languages of markup: Markdown, as CommonMark and pandoc read it, and LaTeX, for a
 //! document that loads hyperref.
 //!
-//! A tree is a list of [`runs`], each of which is written with a look at the letters beside it.
+//! A tree is a list of [`runs`]. Each is written with a look at the letters beside it.
 #![tactic(auto)]
 
 mod addresses;

@@ -42,7 +42,7 @@ pub fn markdown_item(alloc: Global, item: &ItemRuns) -> Result<String, AllocErro
     format!(in alloc; "{field} {content}")
 }
 
-/// An item of a bibliography, of this text, to which cites with this target lead: a paragraph in a
+/// An item of a bibliography with this text, and with the target of its cites: a paragraph in a
 /// `div` of the class `csl-entry`.
 ///
 /// # Errors

@@ -48,7 +48,7 @@ fn is_special_there(letters: &[char], place: usize, c: char) -> bool {
     }
 }
 
-/// Whether these letters, all of which are the same, stand before a place.
+/// Whether these letters stand before a place: all are the same letter.
 fn is_before(letters: &[char], place: usize, wanted: &str) -> bool {
     let mut at = place;
     for c in wanted.chars() {

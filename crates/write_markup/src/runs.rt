@@ -16,7 +16,7 @@ pub enum Run {
 #[derive(Clone, Drop)]
 pub struct ElementRun {
     pub display: Option<Display>,
-    /// The id of the item to which the element leads.
+    /// The id of an item: the element leads there.
     pub target: Option<String>,
 }
 
@@ -55,7 +55,7 @@ impl TextRun {
         self.text.as_str()
     }
 
-    /// The address to which the text leads.
+    /// Where the text leads.
     pub fn address(&self) -> Option<&str> {
         self.address.as_deref()
     }

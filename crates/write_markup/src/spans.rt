@@ -183,7 +183,7 @@ impl Excess {
         }
     }
 
-    /// Whether a letter is a closing bracket of a kind of which there are more.
+    /// Whether a letter is a closing bracket, and there are more of its kind than opening ones.
     fn has(self, c: char) -> bool {
         match c {
             ')' => self.round > 0,
