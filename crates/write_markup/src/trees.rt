@@ -6,9 +6,9 @@ use csl_base::formatting::Formatting;
 use csl_texts::addresses::url_address;
 use std::alloc::{AllocError, Global};
 
-/// The runs of a tree. A cite leads to the target at its place, unless a text in it leads elsewhere.
-/// Texts lead to http, https, mailto and doi alone; a text with another address leads nowhere. What
-/// a tree leaves to its caller is left out.
+/// The runs of a tree. A cite leads to the target at its place, unless a text in it leads
+/// elsewhere. Texts lead to http, https, mailto and doi alone; a text with another address leads
+/// nowhere. What a tree leaves to its caller is left out.
 ///
 /// # Errors
 ///
