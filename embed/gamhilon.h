@@ -138,8 +138,9 @@ uint32_t gamhilon_render_json(const uint8_t *document, size_t document_length,
  *   `suppress-author`, `author-only`, `hidden` and `note` (docs/WRITER.md).
  * - `options`: a JSON object of `locale`, a language tag that stands in place of the style's;
  *   `nocite`: where it is true, items that aren't cited are listed too; `abbreviations`, short
- *   forms of texts (docs/STYLE_FILES.md); and `limits`, an object of `steps` and `bytes`
- *   ("Documents from others", below). Other keys are refused. An empty text is an empty object.
+ *   forms of texts (docs/STYLE_FILES.md); `limits`, an object of `steps` and `bytes` ("Documents
+ *   from others", below); and `form`: `text`, `html`, `markdown`, `latex`, or `json`, which is the
+ *   usual one. Other keys are refused. An empty text is an empty object.
  *
  * Answers may be longer than the texts: a first buffer of 64 KiB and eight times the length of
  * items and citations together will mostly do.
@@ -151,6 +152,9 @@ uint32_t gamhilon_render_json(const uint8_t *document, size_t document_length,
 /* Writes the citations and the bibliography, as JSON (docs/ANSWER.md). A style of notes tells the
  * number of the note of each citation. Quotes have their marks as text. Of what an element was
  * written for (`meta`) cites alone are told: each by its place in the citation that was handed in.
+ *
+ * In another form the text has a line for each citation and then, where the style has a
+ * bibliography, an empty line and a line for each of its items. No text has a line feed in it.
  *
  * Ends with GAMHILON_OK, GAMHILON_DOCUMENT_REFUSED, GAMHILON_NUMBER_OVERFLOW,
  * GAMHILON_OUT_OF_MEMORY, GAMHILON_BUFFER_TOO_SMALL or GAMHILON_LIMIT_EXCEEDED. That the text
@@ -203,7 +207,7 @@ uint32_t gamhilon_find_cite_fault(const uint8_t *style, size_t style_length,
  * than a step takes, the call ends with GAMHILON_LIMIT_EXCEEDED before that step is taken.
  *
  * No published style comes near: of 2,548 the dearest way through a layout takes 1,400 steps and
- * writes 1 KB of the style's own texts. Lower limits keep time and memory lower in proportion.
+ * 11 KB. Lower limits keep time and memory lower in proportion.
  *
  * The rest of this section is about documents. */
 

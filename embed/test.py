@@ -352,7 +352,18 @@ def try_texts(folder):
              and told.get('message', '').startswith(wanted.get('message', ''))
              and {**told, 'message': ''} == {**wanted, 'message': ''},
              f'texts: {name}: status {answer[0]}, the fault is {told}')
+    try_forms(folder, texts)
     try_hard_texts(folder, texts, answered)
+
+
+def try_forms(folder, texts):
+    """A line for each citation, and behind an empty line one for each item."""
+    for form, items in texts.FORMS:
+        files = texts.texts(options={'form': form})
+        place = put_texts(folder, f'form {form}', files)
+        [(answer, _)] = answers_of_texts(folder, 1 << 16, [place])
+        lines = ''.join(f'{line}\n' for line in [*texts.CITED, '', *items])
+        hold(answer == (0, lines.encode()), f'texts: in the form {form}: {answer}')
 
 
 def try_hard_texts(folder, texts, answered):

@@ -116,6 +116,14 @@ ANSWERED = [
       remark('citations', 'unknown key, left out', '/0/0/page')]),
 ]
 
+# Form, and the items as they stand in it, in the order of the list.
+FORMS = [
+    ('text', ['A Reply', 'On “Order” Now']),
+    ('html', ['<i>A Reply</i>', '<i>On “Order” Now</i>']),
+    ('markdown', ['*A Reply*', '*On “Order” Now*']),
+    ('latex', [r'\textit{A Reply}', r'\textit{On “Order” Now}']),
+]
+
 # Name, files, and the fault, of whose message that is the beginning.
 REFUSED = [
     ('a style that is no UTF-8', texts(STYLE.encode().replace(b'<citation>', b'<\xff>')),
@@ -132,6 +140,10 @@ REFUSED = [
      remark('options', 'wanted a language', '/locale')),
     ('a nocite that is no truth value', texts(options={'nocite': 1}),
      remark('options', 'wanted true', '/nocite')),
+    ('an unknown form', texts(options={'form': 'pdf'}),
+     remark('options', 'wanted `text`', '/form')),
+    ('a form that is no text', texts(options={'form': ['text']}),
+     remark('options', 'wanted `text`', '/form')),
     ('limits that are no object', texts(options={'limits': 7}),
      remark('options', 'wanted an object of `steps`', '/limits')),
     ('a limit below 0', texts(options={'limits': {'steps': -1}}),

@@ -4,6 +4,7 @@ ghost use Rattle.std.specs.Prelude.{◌≡◌, IfErr};
 use crate::document::CallDocument;
 use crate::error::{CallError, answer_refusal};
 use crate::findings::print_findings;
+use crate::lines::print_lines;
 use crate::reader::TextReader;
 use crate::remark::Fault;
 use crate::texts::CallTexts;
@@ -13,8 +14,8 @@ use cite_host::limits::check_style;
 use cite_locale::chain::LocaleChain;
 use std::alloc::Global;
 
-/// The citations and the bibliography of these texts as JSON: the answer's form is that of the
-/// driver's answers, and a bibliography is there where the style has one.
+/// The citations and the bibliography of these texts, which is there where the style has one: as
+/// JSON, in the form of the driver's answers, or as lines in the form that the options name.
 ///
 /// # Errors
 ///
@@ -38,8 +39,10 @@ fn print_document(
     let mut answer = answer_of(alloc, text, document, &locale)?;
     answer.citations.truncate(document.shown);
     let marks = locale.quote_marks();
-    let citations = &document.citations;
-    Ok(print_answer(alloc, style, citations, &answer, marks)?)
+    Ok(match document.form {
+        Some(form) => print_lines(alloc, form, &answer, marks)?,
+        None => print_answer(alloc, style, &document.citations, &answer, marks)?,
+    })
 }
 
 /// What comes of a document, with these locales.

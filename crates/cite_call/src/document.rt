@@ -12,6 +12,7 @@ use csl_references::reference::References;
 use std::alloc::{AllocError, Global};
 use style_file::locale::LocaleFile;
 use style_file::style::CslStyle;
+use write_forms::forms::Form;
 
 /// The language of a document that names none.
 const LANGUAGE: &str = "en-US";
@@ -27,6 +28,8 @@ pub(crate) struct CallDocument {
     pub abbreviations: Option<Abbreviations>,
     /// What the style may take for each cite and each item.
     pub part: Cost,
+    /// The form of the answer, where it is no JSON.
+    pub form: Option<Form>,
     /// How many of the citations are the caller's, and not there to list items alone.
     pub shown: usize,
 }
@@ -54,6 +57,7 @@ impl TextReader {
         let CallOptions {
             abbreviations,
             part,
+            form,
             ..
         } = options;
         Ok(CallDocument {
@@ -64,6 +68,7 @@ impl TextReader {
             citations,
             abbreviations,
             part,
+            form,
             shown,
         })
     }

@@ -10,6 +10,7 @@ use cite_walk::abbreviations::Abbreviations;
 use csl_json::fault::{Pointer, Step};
 use serde_json::Value;
 use std::alloc::{AllocError, Global};
+use write_forms::forms::Form;
 
 /// The options of a call.
 #[derive(Drop)]
@@ -22,6 +23,8 @@ pub(crate) struct CallOptions {
     pub abbreviations: Option<Abbreviations>,
     /// What the style may take for each cite and each item.
     pub part: Cost,
+    /// The form of the answer, where it is no JSON.
+    pub form: Option<Form>,
 }
 
 /// The options that a text has. An empty text has none.
@@ -35,6 +38,7 @@ pub(crate) fn options_of(alloc: Global, bytes: &[u8]) -> Result<CallOptions, Cal
         lists_all: false,
         abbreviations: None,
         part: USUAL_PART,
+        form: None,
     };
     if bytes.is_empty() {
         return Ok(options);
@@ -74,13 +78,33 @@ fn set_option(
         },
         "abbreviations" => options.abbreviations = Some(abbreviations_in(alloc, value)?),
         "limits" => options.part = part_in(alloc, value)?,
+        "form" => options.form = form_in(alloc, value)?,
         _ => {
-            let why =
-                "unknown key; the options are `locale`, `nocite`, `abbreviations` and `limits`";
+            let why = "unknown key; the options are `locale`, `nocite`, `abbreviations`, `limits` \
+                       and `form`";
             return Err(wrong_option(alloc, key, why));
         }
     }
     Ok(())
+}
+
+/// The form that the value names, if that is no JSON.
+fn form_in(alloc: Global, value: &Value) -> Result<Option<Form>, CallError> {
+    let name = match value {
+        Value::String(name) => name.as_str(),
+        _ => "",
+    };
+    match name {
+        "json" => Ok(None),
+        "text" => Ok(Some(Form::Text)),
+        "html" => Ok(Some(Form::Html)),
+        "markdown" => Ok(Some(Form::Markdown)),
+        "latex" => Ok(Some(Form::Latex)),
+        _ => {
+            let why = "wanted `text`, `html`, `markdown`, `latex` or `json`";
+            Err(wrong_option(alloc, "form", why))
+        }
+    }
 }
 
 /// The limits that the value is; those that it lacks are the usual ones.

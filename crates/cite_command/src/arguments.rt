@@ -26,6 +26,10 @@ pub enum OutputFormat {
     Text,
     /// HTML.
     Html,
+    /// Markdown, as CommonMark and pandoc read it.
+    Markdown,
+    /// LaTeX, for a document that loads hyperref.
+    Latex,
     /// The JSON of docs/ANSWER.md.
     Json,
 }
@@ -46,7 +50,7 @@ pub struct Options {
     pub is_standalone: bool,
     /// Whether citations are followed by the bibliography.
     pub has_bibliography: bool,
-    /// Whether cites lead to their items, in HTML.
+    /// Whether cites lead to their items, in HTML, Markdown and LaTeX.
     pub links_citations: bool,
     /// Whether references that aren't cited are listed.
     pub lists_uncited: bool,

@@ -68,7 +68,7 @@ fn command<'a>(alloc: Global, verb: Verb) -> Result<Command<'a>, AllocError> {
 fn cite<'a>(alloc: Global) -> Result<Command<'a>, AllocError> {
     let citations = citations(alloc).required(true);
     let command = writing(alloc, "cite", "Prints each citation", citations)?;
-    let links = "Cites lead to their items, in HTML";
+    let links = "Cites lead to their items, in HTML, Markdown and LaTeX";
     let help = "The bibliography follows the citations";
     command
         .arg(flag(alloc, "link-citations", links))?
@@ -96,7 +96,7 @@ fn writing<'a>(
 
 /// The options of a command that writes, and its files.
 fn words<'a>(alloc: Global, citations: Arg<'a>) -> [Arg<'a>; 13] {
-    let formats: &'a [&'a str] = &["text", "html", "json"];
+    let formats: &'a [&'a str] = &["text", "html", "markdown", "latex", "json"];
     [
         style(alloc),
         valued(

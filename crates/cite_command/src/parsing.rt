@@ -149,6 +149,8 @@ fn text_at(alloc: Global, words: &ArgMatches<'_>, id: &str) -> Result<Option<Str
 fn format_in(words: &ArgMatches<'_>) -> OutputFormat {
     match words.get_str("to") {
         Some("html") => OutputFormat::Html,
+        Some("markdown") => OutputFormat::Markdown,
+        Some("latex") => OutputFormat::Latex,
         Some("json") => OutputFormat::Json,
         None if words.get_flag("standalone") => OutputFormat::Html,
         _ => OutputFormat::Text,

@@ -65,7 +65,8 @@ pub struct Texts<'t> {
     /// A JSON list of citations, which are lists of cites (docs/WRITER.md).
     pub citations: &'t [u8],
     /// A JSON object: `locale`, a language tag; `nocite`, whether items that aren't cited are
-    /// listed; and `abbreviations`, short forms of texts (docs/STYLE_FILES.md).
+    /// listed; `abbreviations`, short forms of texts (docs/STYLE_FILES.md); `limits`; and `form`
+    /// (docs/WRITER.md).
     pub options: &'t [u8],
 }
 

@@ -247,8 +247,8 @@ class _Rendering:
         style = self.project.style(kind.style)
         if kind.label_prefix:
             style = with_label_prefix(style, kind.label_prefix)
-        listed_keys = [key for listed in group.lists
-                       for key in self.keys[listed.docname, listed.number]]
+        listed_keys = self._as_cited({key: None for listed in group.lists
+                                      for key in self.keys[listed.docname, listed.number]})
         if style.is_note:
             trees = {}
             for page in {cited.docname: None for cited in group.citations}:
@@ -260,6 +260,12 @@ class _Rendering:
         for listed in group.lists:
             self._list(listed, bibliography)
         return trees
+
+    def _as_cited(self, keys: Dict[Key, None]) -> List[Key]:
+        """The works of lists in the order in which pages cite them, and then the others. (Citations
+        that lead to another list of the same works are written with that.)"""
+        cited = [key for key in self.cited_on if key in keys]
+        return list(dict.fromkeys([*cited, *keys]))
 
     def _others(self, group: _Group, own: Sequence[Cited], listed: Sequence[Key]) -> List[Key]:
         """The works that pages cite beside these citations: notes are those of a page, and names
