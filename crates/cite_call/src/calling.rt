@@ -39,7 +39,7 @@ fn print_document(
     let mut answer = answer_of(alloc, text, document, &locale)?;
     answer.citations.truncate(document.shown);
     let marks = locale.quote_marks();
-    Ok(match document.form {
+    Ok(match document.lines {
         Some(form) => print_lines(alloc, form, &answer, marks)?,
         None => print_answer(alloc, style, &document.citations, &answer, marks)?,
     })

@@ -28,8 +28,8 @@ pub(crate) struct CallDocument {
     pub abbreviations: Option<Abbreviations>,
     /// What the style may take for each cite and each item.
     pub part: Cost,
-    /// The form of the answer, where it is no JSON.
-    pub form: Option<Form>,
+    /// The form of the lines that are wanted in place of JSON.
+    pub lines: Option<Form>,
     /// How many of the citations are the caller's, and not there to list items alone.
     pub shown: usize,
 }
@@ -57,7 +57,7 @@ impl TextReader {
         let CallOptions {
             abbreviations,
             part,
-            form,
+            lines,
             ..
         } = options;
         Ok(CallDocument {
@@ -68,7 +68,7 @@ impl TextReader {
             citations,
             abbreviations,
             part,
-            form,
+            lines,
             shown,
         })
     }

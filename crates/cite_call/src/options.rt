@@ -23,8 +23,8 @@ pub(crate) struct CallOptions {
     pub abbreviations: Option<Abbreviations>,
     /// What the style may take for each cite and each item.
     pub part: Cost,
-    /// The form of the answer, where it is no JSON.
-    pub form: Option<Form>,
+    /// The form of the lines that are wanted in place of JSON.
+    pub lines: Option<Form>,
 }
 
 /// The options that a text has. An empty text has none.
@@ -38,7 +38,7 @@ pub(crate) fn options_of(alloc: Global, bytes: &[u8]) -> Result<CallOptions, Cal
         lists_all: false,
         abbreviations: None,
         part: USUAL_PART,
-        form: None,
+        lines: None,
     };
     if bytes.is_empty() {
         return Ok(options);
@@ -78,7 +78,7 @@ fn set_option(
         },
         "abbreviations" => options.abbreviations = Some(abbreviations_in(alloc, value)?),
         "limits" => options.part = part_in(alloc, value)?,
-        "form" => options.form = form_in(alloc, value)?,
+        "form" => options.lines = form_in(alloc, value)?,
         _ => {
             let why = "unknown key; the options are `locale`, `nocite`, `abbreviations`, `limits` \
                        and `form`";
