@@ -4,6 +4,7 @@ from __future__ import annotations
 import json
 from typing import Any, Dict, List, Mapping, Optional, Sequence, Union
 
+from ._answers_again import AnswerReader
 from ._library import CiteTexts, library
 from .answer import Answer, answer_of
 from .errors import DocumentRefused, OutOfMemory, TextRefused
@@ -29,16 +30,19 @@ def texts_of(style: Union[str, bytes], items: Json, citations: Json, locales: Se
                      options=_json_of('options', options))
 
 
-def cite_texts(texts: CiteTexts, warns: bool = True) -> Answer:
-    """The answer to these texts, with what is odd in them unless that isn't asked for."""
+def cite_texts(texts: CiteTexts, warns: bool = True,
+               reader: Optional[AnswerReader] = None) -> Answer:
+    """The answer to these texts, with what is odd in them unless that isn't asked for. A reader is
+    that of answers to texts that are much alike."""
+    read = answer_of if reader is None else reader.read
     try:
         text = library().cite(texts)
     except DocumentRefused:
         raise _refusal(texts) from None
     if not warns:
-        return answer_of(text.decode())
+        return read(text.decode())
     _, warnings = findings_of(json.loads(library().find_cite_fault(texts)))
-    return answer_of(text.decode(), warnings)
+    return read(text.decode(), warnings)
 
 
 def _refusal(texts: CiteTexts) -> Exception:

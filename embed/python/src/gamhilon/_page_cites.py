@@ -3,6 +3,7 @@ from __future__ import annotations
 
 import re
 from dataclasses import dataclass, field
+from functools import cached_property
 from typing import Callable, Dict, List, Mapping, Optional, Sequence, Set, Tuple, Union
 
 from . import csl
@@ -60,8 +61,8 @@ class CitationOfPage(PageCitation):
     def keys(self) -> List[str]:
         return [cited.cite.id for cited in self.cited]
 
-    @property
-    def names_author(self) -> bool:
+    @cached_property
+    def names_author(self) -> bool:  # type: ignore[override]
         return self.is_in_text and bool(self.cited) and not self.keeps_names
 
     def cites(self, keeps_authors: bool = False) -> List[csl.Cite]:
