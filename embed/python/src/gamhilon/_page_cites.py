@@ -62,7 +62,7 @@ class CitationOfPage(PageCitation):
         return [cited.cite.id for cited in self.cited]
 
     @cached_property
-    def names_author(self) -> bool:  # type: ignore[override]
+    def names_author(self) -> bool:
         return self.is_in_text and bool(self.cited) and not self.keeps_names
 
     def cites(self, keeps_authors: bool = False) -> List[csl.Cite]:
