@@ -328,8 +328,9 @@ def try_texts(folder):
     schema = validator('answer')
     answered = [put_texts(folder, f'answered {number}', case[1])
                 for number, case in enumerate(texts.ANSWERED)]
-    refused = [put_texts(folder, f'refused {number}', case[1])
-               for number, case in enumerate(texts.REFUSED)]
+    cases = [(2, *case) for case in texts.REFUSED] + [(10, *case) for case in texts.EXCEEDED]
+    refused = [put_texts(folder, f'refused {number}', case[2])
+               for number, case in enumerate(cases)]
     found = answers_of_texts(folder, 1 << 16, answered + refused)
     hold(found == answers_of_texts(folder, 1, answered + refused), 'texts in a buffer of one byte')
     for (name, _, cited, notes, listed, warnings), (answer, findings) in zip(texts.ANSWERED, found):
@@ -344,13 +345,25 @@ def try_texts(folder):
              f'texts: {name}: the warnings are {findings[1].decode()}')
         if schema:
             hold(schema.is_valid(value), f'texts: {name}: its JSON against docs/answer.schema.json')
-    for (name, _, fault), (answer, findings) in zip(texts.REFUSED, found[len(answered):]):
+    for (status, name, _, fault), (answer, findings) in zip(cases, found[len(answered):]):
         told = json.loads(findings[1] or b'{}').get('fault', {})
-        hold(answer == (2, b'') and findings[0] == 0
-             and told.get('message', '').startswith(fault['message'])
-             and {**told, 'message': ''} == {**fault, 'message': ''},
+        wanted = fault or {}
+        hold(answer == (status, b'') and findings[0] == 0
+             and told.get('message', '').startswith(wanted.get('message', ''))
+             and {**told, 'message': ''} == {**wanted, 'message': ''},
              f'texts: {name}: status {answer[0]}, the fault is {told}')
+    try_forms(folder, texts)
     try_hard_texts(folder, texts, answered)
+
+
+def try_forms(folder, texts):
+    """A line for each citation, and behind an empty line one for each item."""
+    for form, items in texts.FORMS:
+        files = texts.texts(options={'form': form})
+        place = put_texts(folder, f'form {form}', files)
+        [(answer, _)] = answers_of_texts(folder, 1 << 16, [place])
+        lines = ''.join(f'{line}\n' for line in [*texts.CITED, '', *items])
+        hold(answer == (0, lines.encode()), f'texts: in the form {form}: {answer}')
 
 
 def try_hard_texts(folder, texts, answered):

@@ -53,14 +53,14 @@ _gamhilon() {
         cite:--styles) _gamhilon_offer "$@" folders ;;
         cite:--locales) _gamhilon_offer "$@" folders ;;
         cite:--abbreviations) _gamhilon_offer "$@" files ;;
-        cite:--to) _gamhilon_offer "$@" words text html json ;;
+        cite:--to) _gamhilon_offer "$@" words text html markdown latex json ;;
         cite:--references) _gamhilon_offer "$@" files ;;
         bibliography:--style) _gamhilon_offer "$@" styles ;;
         bibliography:--locale) _gamhilon_offer "$@" nothing ;;
         bibliography:--styles) _gamhilon_offer "$@" folders ;;
         bibliography:--locales) _gamhilon_offer "$@" folders ;;
         bibliography:--abbreviations) _gamhilon_offer "$@" files ;;
-        bibliography:--to) _gamhilon_offer "$@" words text html json ;;
+        bibliography:--to) _gamhilon_offer "$@" words text html markdown latex json ;;
         bibliography:--references) _gamhilon_offer "$@" files ;;
         render:--to) _gamhilon_offer "$@" words text json ;;
         render:--depth) _gamhilon_offer "$@" nothing ;;

@@ -38,8 +38,12 @@ def style_of(layout, macros=()):
 
 LONG = style_of('<text macro="m17"/>', ['<group>' * 4 + TITLE + '</group>' * 4,
                                         *[2 * f'<text macro="m{it}"/>' for it in range(17)]])
-"""A layout of 917,503 elements, fewer than a style file may have, and of more steps than a program
-may have."""
+"""A layout of 917,503 elements, fewer than a style file may have. The macro m0 has 9 steps, and each
+one behind it four more than twice as many: 13 * 2 ** n - 4. So m14, in line 17, is the first that
+has more than 200,000."""
+MANY_NAMES = style_of(30 * ('<names variable="author"><name et-al-min="2" et-al-use-first="1"/>'
+                            '</names>'))
+"""Thirty names elements, which takes 12,000 steps where there are a hundred names."""
 
 
 def bytes_of(value):
@@ -101,6 +105,8 @@ ANSWERED = [
     ('two locales of a language', texts(citations=[ROE], locales=[ENGLISH, ENGLISH]),
      ['Roe, “A Reply”.'], [1], listed(REPLY),
      [remark('locales/1', 'a locale before it is of the same language, so it is left out')]),
+    ('limits', texts(citations=[ROE], options={'limits': {'steps': 100, 'bytes': 1000}}),
+     ['Roe, “A Reply.”'], [1], listed(REPLY), []),
     ('odd texts', texts(STYLE.replace('<citation>', '<citation size="3">'),
                         [{**ITEMS[1], 'a/b': 1}], [[{'id': 'a', 'page': 3, 'hidden': 'no'}]]),
      ['Roe, “A Reply.”'], [1], listed(REPLY),
@@ -108,6 +114,14 @@ ANSWERED = [
       remark('items', 'unknown key, left out', '/0/a~1b'),
       remark('citations', 'neither true nor false, left out', '/0/0/hidden'),
       remark('citations', 'unknown key, left out', '/0/0/page')]),
+]
+
+# Form, and the items as they stand in it, in the order of the list.
+FORMS = [
+    ('text', ['A Reply', 'On “Order” Now']),
+    ('html', ['<i>A Reply</i>', '<i>On “Order” Now</i>']),
+    ('markdown', ['*A Reply*', '*On “Order” Now*']),
+    ('latex', [r'\textit{A Reply}', r'\textit{On “Order” Now}']),
 ]
 
 # Name, files, and the fault, of whose message that is the beginning.
@@ -120,14 +134,22 @@ REFUSED = [
     ('a dependent style', texts(DEPENDENT),
      remark('style', f'it stands for the style `{APA}`, which is to be given', parent=APA,
             parent_locale='de-DE')),
-    ('macros that make a layout too long', texts(LONG),
-     remark('style', 'the macros of the style are too long')),
     ('options that are no object', texts(options=[]), remark('options', 'wanted an object', '')),
     ('an unknown option', texts(options={'a/b': 1}), remark('options', 'unknown key; ', '/a~1b')),
     ('a language that is no text', texts(options={'locale': None}),
      remark('options', 'wanted a language', '/locale')),
     ('a nocite that is no truth value', texts(options={'nocite': 1}),
      remark('options', 'wanted true', '/nocite')),
+    ('an unknown form', texts(options={'form': 'pdf'}),
+     remark('options', 'wanted `text`', '/form')),
+    ('a form that is no text', texts(options={'form': ['text']}),
+     remark('options', 'wanted `text`', '/form')),
+    ('limits that are no object', texts(options={'limits': 7}),
+     remark('options', 'wanted an object of `steps`', '/limits')),
+    ('a limit below 0', texts(options={'limits': {'steps': -1}}),
+     remark('options', 'wanted an object of `steps`', '/limits')),
+    ('an unknown limit', texts(options={'limits': {'hours': 1}}),
+     remark('options', 'wanted an object of `steps`', '/limits')),
     ('options that are no JSON', texts(options='{\n "locale"}'),
      remark('options', 'no JSON', line=2, column=10)),
     ('locales that are no list', texts(locales={}), remark('locales', 'wanted a list', '')),
@@ -156,6 +178,32 @@ REFUSED = [
      remark('citations', 'wanted an `id`', '/0/0')),
     ('a cite of no item', texts(citations=[[], [{'id': 'a'}, {'id': 'd'}]]),
      remark('citations', 'there is no item `d`', '/1/1/id')),
+]
+
+# Name, files, and what is told of the style that takes too much, if it does so whatever items have.
+EXCEEDED = [
+    ('macros that double', texts(LONG),
+     remark('style', 'the style takes more than 200000 steps', line=17, column=1)),
+    ('a macro of many names elements, each of which takes five steps',
+     texts(style_of('<text macro="m0"/>', ['<names variable="author"/>' * 2001])),
+     remark('style', 'the style takes more than 10000 steps', line=3, column=1)),
+    ('a variable that stands many times',
+     texts(style_of(f'<names variable="{" ".join(["author"] * 4000)}"/>')),
+     remark('style', 'the style takes more than 10000 steps', line=3, column=1)),
+    ('a long affix', texts(style_of('<text macro="m0"/>',
+                                    [f'<text variable="title" prefix="{"x" * 200001}"/>'])),
+     remark('style', 'the style writes more than 200000 bytes', line=3, column=1)),
+    ('a long text in place of names that repeat',
+     texts(STYLE.replace('<bibliography', '<bibliography subsequent-author-substitute="%s"'
+                         % ('x' * 200001))),
+     remark('style', 'the style writes more than 200000 bytes', line=4, column=1)),
+    ('no steps at all', texts(options={'limits': {'steps': 0}}),
+     remark('style', 'the style takes more than 0 steps', line=3, column=1)),
+    ('fewer bytes than an affix has', texts(options={'limits': {'bytes': 0}}),
+     remark('style', 'the style writes more than 0 bytes', line=3, column=1)),
+    ('an item of many names',
+     texts(MANY_NAMES, [{'id': 'a', 'type': 'book', 'author': [{'family': 'Doe'}] * 100}], [ROE]),
+     None),
 ]
 
 # Small texts, on which each growth of memory is refused in turn: the words that are built in take

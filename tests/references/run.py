@@ -32,6 +32,8 @@ BATCH = 1000
 LIBRARY = 100000
 # Of processor time the least of some rounds is taken, and there are more of them before a failure.
 ROUNDS = 12
+# What takes less than this many seconds can't be told from nothing on a machine that others use.
+MEASURABLE = 0.1
 KINDS = {
     dict: 'an object', list: 'a list', str: 'a text', bool: 'a truth value', int: 'a number',
     float: 'a number', type(None): 'null',
@@ -295,11 +297,12 @@ def growth(program, name, shape, strict):
     most = 4.4 if strict else 6
     with tempfile.TemporaryDirectory(prefix='references-') as folder:
         runs = [(program, written(folder, shape, size), 'count') for size in (1, 4)]
-        times, memory = least_of_rounds(runs, lambda one, four: four <= most * one)
+        is_even = lambda one, four: four <= most * max(one, MEASURABLE)
+        times, memory = least_of_rounds(runs, is_even)
     said = '%s: %.2f s and %.0f MB, %.2f s and %.0f MB for four times as much' % (
         name, times[0], memory[0] / 1e6, times[1], memory[1] / 1e6)
     print(said)
-    if times[1] > most * times[0] or memory[1] > most * memory[0]:
+    if not is_even(*times) or memory[1] > most * memory[0]:
         raise Failed(said)
 
 

@@ -1,6 +1,8 @@
 """Small styles and references with the texts that the rules of CSL 1.0.2 ask for; each names the
 section of the specification that it follows. The texts are written by hand from these sections."""
 
+from alphabets import ALPHABETS
+
 BOOK = {'id': 'book', 'type': 'book', 'title': 'the art of rivers', 'author': [{'family': 'Roe', 'given': 'Jane Ann'}],
         'publisher': 'North Press', 'publisher-place': 'Oslo', 'edition': '2', 'volume': '4', 'number-of-pages': '312',
         'issued': {'date-parts': [[2001, 3, 9]]}}
@@ -106,7 +108,50 @@ PARTED_NAMES = ('<group delimiter=" / "><names variable="author"><name>%s</name>
 LABELLED = [person('a', 'Doe', 'Jane', 1999, title='A'), person('b', 'Doe', 'Jane', 1999, title='B')]
 FOUR = [several('one', 2000, 'Ape', 'Bee', 'Cat', 'Dog')]
 
+
+
+def in_form(name, rule, to, layout, *pairs):
+    """A case of titles, each with what is written of it in a form."""
+    pages = [{**PAGE, 'id': 'page %d' % place, 'title': title} for place, (title, _) in enumerate(pairs)]
+    return cite(name, rule, layout, pages, [wanted for _, wanted in pairs], [cites(page['id']) for page in pages], to=to)
+
+
+FORMATTED = '<group delimiter=" ">%s</group>' % ''.join('<text variable="title" %s/>' % formatting for formatting in (
+    'font-style="italic"', 'font-weight="bold"', 'font-weight="bold" font-style="italic"', 'font-variant="small-caps"',
+    'text-decoration="underline"', 'vertical-align="sup"', 'vertical-align="sub"'))
+
 CASES = [
+    # Markdown and LaTeX
+    in_form('letters of Markdown', 'a backslash stands before a letter that Markdown reads as its own', 'markdown', TEXT,
+            (r'\ ` * _ { } [ ] < > # | ~ ^ $ @ & % !', r'\\ \` \* \_ \{ \} \[ \] \< \> \# \| \~ \^ \$ \@ \& % \!'),
+            ('a--b---c d', r'a-\-b-\-\-c d'), ('www.a.b http://a.b a:b:c a: b', r'www\.a.b http\://a.b a\:b:c a: b')),
+    in_form('beginnings of lists', 'no paragraph begins as an item of a list, a heading or a quotation', 'markdown', TEXT,
+            ('1. x', r'1\. x'), ('12) x', r'12\) x'), ('(a) x', r'(a\) x'), ('iv. x', r'iv\. x'), ('XI) x', r'XI\) x'), ('+ x', r'\+ x'),
+            ('- x', r'\- x'), ('# x', r'\# x'), ('> x', r'\> x'), (': x', r'\: x'), ('% x', r'\% x'), ('A. x', 'A. x'), ('1.x', '1.x'),
+            ('x. y', r'x\. y'), ('xyz. x', 'xyz. x')),
+    in_form('formatting in Markdown', 'marks of Markdown are italic and bold, and tags of HTML the rest', 'markdown', FORMATTED,
+            ('T', '*T* **T** ***T*** <span style="font-variant:small-caps;">T</span> <u>T</u> <sup>T</sup> <sub>T</sub>')),
+    in_form('formatting beside letters in Markdown', 'tags stand where marks would not be read as such', 'markdown',
+            '<text variable="title" font-style="italic" prefix="x" suffix="y"/><text variable="title" font-weight="bold" suffix="."/>',
+            ('T', 'x<em>T</em>y<strong>T</strong>.')),
+    in_form('formatting behind a bracket in Markdown', 'marks stand where they are read as such', 'markdown',
+            '<text variable="title" font-style="italic" prefix="(" suffix=")"/>', ('T', '(*T*)')),
+    in_form('a link in Markdown', 'its address stands in angle brackets', 'markdown', '<text variable="URL"/>',
+            ('T', r'[https\://example.org/nobody](<https://example.org/nobody>)')),
+    in_form('letters of LaTeX', 'a command stands for a letter that LaTeX reads as its own, and two marks are no ligature', 'latex', TEXT,
+            (r'\ ` * _ { } [ ] < > # | ~ ^ $ @ & % !', r'\textbackslash{} \textasciigrave{} * \_ \{ \} {[} {]} \textless{} \textgreater{} \# '
+             r'\textbar{} \textasciitilde{} \textasciicircum{} \$ @ \& \% !'),
+            ('a--b---c d', 'a-{}-b-{}-{}-c d'), ('a\u00a0b\u2009c\u2212d', r'a~b\,c\ensuremath{-}d')),
+    in_form('formatting in LaTeX', 'each formatting has a command', 'latex', FORMATTED,
+            ('T', r'\textit{T} \textbf{T} \textbf{\textit{T}} \textsc{T} \underline{T} \textsuperscript{T} \textsubscript{T}')),
+    in_form('a link in LaTeX', 'an address that is shown may be broken behind its signs', 'latex', '<text variable="URL"/>',
+            ('T', r'\href{https://example.org/nobody}{https://\allowbreak{}example.\allowbreak{}org/\allowbreak{}nobody}')),
+    item('addresses in a bibliography in LaTeX', 'URLs and DOIs of texts lead there, without the punctuation of their sentences', TEXT,
+         [{**PAGE, 'title': 'at 10.1000/a_b%c, (http://example.org/~a#b).'}],
+         [r'\noindent \hypertarget{ref-page}{}at \href{https://doi.org/10.1000/a_b\%c}{10.\allowbreak{}1000/\allowbreak{}a\_\allowbreak{}b\%c}, '
+          r'(\href{http://example.org/\%7Ea\#b}{http://\allowbreak{}example.\allowbreak{}org/\allowbreak{}\textasciitilde{}a\#b}).\par', ''],
+         to='latex'),
+
     # Links
     item('a link with its affix', 'Links: what a prefix has of the address is part of the link, and other affixes are not',
          '<text variable="DOI" prefix="doi: https://doi.org/" suffix="."/>', [PAPER],
@@ -504,9 +549,10 @@ CASES = [
     item('literal dates', 'pandoc, citeproc-js: a date without numbers stands behind the others, downwards too', TEXT,
          [{**PAGE, 'title': 'X', 'issued': {'literal': 'forthcoming'}}, person('a', 'A', 'A', 2000, title='Y')], ['Y', 'X'],
          bibliography_sort='<sort><key variable="issued" sort="descending"/></sort>'),
-    item('letters of a language', 'pandoc, Unicode’s collation for Swedish: å, ä and ö stand behind z', TEXT,
-         [{**PAGE, 'id': it, 'title': it} for it in ('Öberg', 'Åberg', 'Zola', 'Mann')], ['Mann', 'Zola', 'Åberg', 'Öberg'],
-         bibliography_sort='<sort><key variable="title"/></sort>', options='default-locale="sv-SE"'),
+    *(item('letters of ' + tag, 'ICU, Unicode’s collation for the language (alphabets.py)', TEXT,
+           [{**PAGE, 'id': it, 'title': it} for it in sorted(words.split(), reverse=True)], words.split(),
+           bibliography_sort='<sort><key variable="title"/></sort>', options='default-locale="%s"' % tag)
+      for tag, words in ALPHABETS.items()),
     item('accents of other languages', 'Unicode’s root collation: elsewhere they are letters with accents', TEXT,
          [{**PAGE, 'id': it, 'title': it} for it in ('Zola', 'Öberg', 'Mann', 'Åberg')], ['Åberg', 'Mann', 'Öberg', 'Zola'],
          bibliography_sort='<sort><key variable="title"/></sort>'),

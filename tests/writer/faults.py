@@ -77,6 +77,51 @@ def many_names(count):
     return '[{"id": "a", "type": "book", "title": "A", "author": [%s]}]' % names
 
 
+def of_macros(layout, *macros):
+    """A style that writes this, with these macros, m0 in line 3 the first, and each in a line of its own."""
+    rows = ''.join('<macro name="m%d">%s</macro>\n' % numbered for numbered in enumerate(macros))
+    return STYLE.replace(TITLE, layout).replace('<citation>', rows + '<citation>')
+
+
+def twice(count, element):
+    """Macros each of which calls the one before it twice; the first one writes the element."""
+    return [element, *('<text macro="m%d"/><text macro="m%d"/>' % (n, n) for n in range(count))]
+
+
+def titles(count, affix=''):
+    """A style whose layout writes the title so many times."""
+    return STYLE.replace(TITLE, count * ('<text variable="title" prefix="%s"/>' % affix))
+
+
+# Styles that take more than they may, whatever the items have; where; and what they take too much of.
+STEPS, BYTES = 'the style takes more than %d steps', 'the style writes more than %d bytes'
+EXCESSIVE = [
+    # The nth macro has 5 * 2 ** n - 4 steps: the sixteenth is the first that has more than 200,000.
+    ('macros that double to 131,072 texts', of_macros('<text macro="m17"/>', *twice(17, TITLE)), '19:1', STEPS % 200000),
+    ('names that are called 32,768 times', style_of('<text macro="m15"/>', *('<macro name="m%d">%s</macro>' % it for it in enumerate(
+        twice(15, '<names variable="author"/>')))), '3', STEPS % 10000),
+    ('a macro of 2,001 names elements, each of which takes five steps', of_macros('<text macro="m0"/>', '<names variable="author"/>' * 2001),
+     '3:1', STEPS % 10000),
+    ('a variable that stands 4,000 times', of_macros('<names variable="%s"/>' % ' '.join(['author'] * 4000)), '3:1', STEPS % 10000),
+    ('an affix of 8 MB', of_macros('<text macro="m1"/>', TITLE, '<text variable="title" prefix="%s"/>' % ('x' * 8000000)), '4:1',
+     BYTES % 200000),
+    ('a long delimiter of a group', of_macros('<group delimiter="%s">%s</group>' % ('x' * 100001, TITLE * 2)), '3:1', BYTES % 200000),
+    ('a long delimiter of cites', STYLE.replace('<layout>', '<layout delimiter="%s">' % ('x' * 200001)), '3:1', BYTES % 200000),
+    ('a long text in place of names that repeat', style_of(TITLE).replace('<bibliography>', '\n<bibliography subsequent-author-substitute="%s">'
+                                                                        % ('x' * 200001)), '4:1', BYTES % 200000),
+    ('a long value, which may be full of markup', of_macros('<text value="%s"/>' % ('x' * 40100)), '3:1', STEPS % 10000),
+    ('a language with 1,700 locales', STYLE.replace('<citation>', '<locale xml:lang="de"><terms/></locale>' * 1700 + '\n<citation>'), '3:1',
+     STEPS % 100),
+    ('a long term', STYLE.replace('<citation>', '<locale><terms><term name="and">%s</term></terms></locale>\n<citation>' % ('x' * 2001)),
+     '3:1', BYTES % 2000),
+]
+# What is written once more in another case is paid for each time: 50,000 bytes with the title, and four times as many.
+CASES_IN_CASES = of_macros('<text macro="m3" text-case="uppercase"/>', '<text variable="title" prefix="%s"/>' % ('x' * 49999),
+                           *('<text macro="m%d" text-case="uppercase"/>' % n for n in range(3)))
+# Each takes 1 step, 4 for the variable, and 400 for a hundred names.
+NAMES_25 = style_of('<names variable="author"><name et-al-min="2" et-al-use-first="1"/></names>' * 25)
+
+
 def calling(count, calls):
     """A document with this many macros, of which each calls the next one so many times, and the
     last one writes."""
@@ -134,10 +179,13 @@ FAULTS = [
           '--stile=apa'),
     usage('no value', "a value is required for '--style <STYLE>' but none was supplied", 'bibliography', 'r.json', '--style'),
     usage('two styles', "the argument '--style <STYLE>' cannot be used multiple times", 'bibliography', '--style', 'a', '--style', 'b', 'r'),
-    usage('an unknown format', "invalid value 'pdf' for '--to <FORMAT>' [possible values: text, html, json]", 'bibliography', '--style',
+    usage('an unknown format', "invalid value 'pdf' for '--to <FORMAT>' [possible values: text, html, markdown, latex, json]",
+          'bibliography', '--style',
           'apa', '--to', 'pdf', 'r.json'),
     usage('a page of texts', '`--standalone` makes a page of HTML alone', 'bibliography', '--style', 'apa', '--to', 'text', '--standalone',
           'r.json'),
+    usage('a page of Markdown', '`--standalone` makes a page of HTML alone', 'bibliography', '--style', 'apa', '--to', 'markdown',
+          '--standalone', 'r.json'),
     usage('nothing to check', 'the following required arguments were not provided: <FILE>...', 'check'),
     usage('an option of check', "unexpected argument '--all' found; tip: to pass '--all' as a value, use '-- --all'", 'check', '--all'),
     usage('no document', 'the following required arguments were not provided: <DOCUMENT>', 'render'),
@@ -169,6 +217,31 @@ FAULTS = [
     cited('a ring of macros', 2, ['FILE/s.csl:3:…'], s=ring()),
     cited('groups in groups', 2, ['FILE/s.csl:3:…'], s=style_of('<group>' * 10000 + '</group>' * 10000)),
     cited('macros that double', 2, ['FILE/s.csl:3:…'], s=doubling(40)),
+    # Limits of styles
+    *(cited('limits: ' + name, 10, ['FILE/s.csl:%s:%s' % (place, ' error: ' + why if ':' in place else '…')], s=text)
+      for name, text, place, why in EXCESSIVE),
+    *(Fault('check: ' + name, ['check', 'FILE/s.csl'], 10, ['FILE/s.csl:%s:%s' % (place, ' error: ' + why if ':' in place else '…')],
+            {'s.csl': text}) for name, text, place, why in EXCESSIVE),
+    cited('text cases of a text in text cases', 10, ['FILE/s.csl:6:1: error: ' + BYTES % 200000], s=CASES_IN_CASES),
+    cited('an item of a hundred names', 10, ['FILE/s.csl:3:1: error: ' + STEPS % 10000], s=NAMES_25, r=many_names(100)),
+    cited('an item of ten names', 0, [], s=NAMES_25, r=many_names(10), out='F0 et al.' * 25 + '\n'),
+    cited('as many steps as may be', 0, [], s=titles(6), out='AAAAAA\n',
+          words=('--most-steps', '3', '--style', 'FILE/s.csl', 'FILE/r.json', 'FILE/c.json')),
+    cited('a step more', 10, ['FILE/s.csl:3:1: error: ' + STEPS % 6], s=titles(7),
+          words=('--most-steps=3', '--style', 'FILE/s.csl', 'FILE/r.json', 'FILE/c.json')),
+    cited('no steps', 10, ['FILE/s.csl:3:1: error: ' + STEPS % 0],
+          words=('--most-steps', '0', '--style', 'FILE/s.csl', 'FILE/r.json', 'FILE/c.json')),
+    cited('as many bytes as may be, with that of the title', 0, [], s=titles(1, 'x' * 19), out='x' * 19 + 'A\n',
+          words=('--most-bytes', '10', '--style', 'FILE/s.csl', 'FILE/r.json', 'FILE/c.json')),
+    cited('a byte more', 10, ['FILE/s.csl:3:1: error: ' + BYTES % 20], s=titles(1, 'x' * 20),
+          words=('--most-bytes', '10', '--style', 'FILE/s.csl', 'FILE/r.json', 'FILE/c.json')),
+    cited('more steps than usual', 0, [], s=titles(11000), out='A' * 11000 + '\n',
+          words=('--most-steps', '5500', '--style', 'FILE/s.csl', 'FILE/r.json', 'FILE/c.json')),
+    Fault('limits of a bibliography', ['bibliography', '--most-bytes', '1', '--style', 'FILE/s.csl', 'FILE/r.json'], 10,
+          ['FILE/s.csl:4:1: error: ' + BYTES % 2], {'s.csl': style_of(TITLE).replace('<bibliography>', '\n<bibliography>').replace(
+              '<layout><text variable="title"/></layout></bibliography>', '<layout><text value="xyz"/></layout></bibliography>')}),
+    usage('a limit that is no number', "invalid value 'x' for '--most-steps <N>': invalid digit found in string", 'cite', '--most-steps', 'x',
+          '--style', 'apa', 'r.json', 'c.json'),
     Fault('a style whose parent is not there', ['cite', '--styles', 'FILE/none', '--style', 'FILE/d.csl', 'FILE/r.json', 'FILE/c.json'], 2,
           ['FILE/d.csl: error: its parent can\'t be read: FILE/none/s.csl: …'], {'d.csl': DEPENDENT}),
     Fault('a parent that depends on another', ['cite', '--styles', 'FILE', '--style', 'FILE/d.csl', 'FILE/r.json', 'FILE/c.json'], 2,
@@ -312,6 +385,29 @@ FAULTS = [
           out='<a href="https://doi.org/10.1234/x">10.1234/x</a>\n'),
     Fault('links of cites in text', ['cite', '--link-citations', '--style', 'FILE/s.csl', 'FILE/r.json', 'FILE/c.json'], 0, [],
           {'s.csl': style_of(TITLE)}, out='A\n'),
+    Fault('items in Markdown', ['bibliography', '--style', 'FILE/s.csl', '--to', 'markdown', 'FILE/r.json'], 0, [],
+          {'s.csl': LAID_OUT, 'r.json': ODD_IDS}, out='\n'.join(
+              '<div id="%s" class="csl-entry">\n\n%s T\n\n</div>\n' % anchored for anchored in ODD_ANCHORS)),
+    Fault('items in LaTeX', ['bibliography', '--style', 'FILE/s.csl', '--to', 'latex', 'FILE/r.json'], 0, [],
+          {'s.csl': LAID_OUT, 'r.json': ODD_IDS}, out=''.join(
+              '\\noindent \\hangindent=1.5em \\hypertarget{%s}{}%s\\quad T\\par\n\n' % anchored for anchored in ODD_ANCHORS)),
+    Fault('no items in LaTeX', ['bibliography', '--style', 'FILE/s.csl', '--to', 'latex', 'FILE/r.json', 'FILE/c.json'], 0, [],
+          {'s.csl': style_of(TITLE), 'c.json': '[]'}),
+    Fault('citations and the bibliography in Markdown', ['cite', '--with-bibliography', '--style', 'FILE/s.csl', '--to', 'markdown',
+                                                         'FILE/r.json', 'FILE/c.json'], 0, [], {'s.csl': style_of(TITLE)},
+          out='A\n\n<div id="ref-a" class="csl-entry">\n\nA\n\n</div>\n'),
+    Fault('citations and the bibliography in LaTeX', ['cite', '--with-bibliography', '--style', 'FILE/s.csl', '--to', 'latex',
+                                                      'FILE/r.json', 'FILE/c.json'], 0, [], {'s.csl': style_of(TITLE)},
+          out='A\n\n\\noindent \\hypertarget{ref-a}{}A\\par\n\n'),
+    Fault('cites that lead to their items in Markdown', ['cite', '--link-citations', '--style', 'FILE/s.csl', '--to', 'markdown',
+                                                         'FILE/r.json', 'FILE/c.json'], 0, [], {'s.csl': style_of(TITLE)},
+          out='[A](#ref-a)\n'),
+    Fault('cites that lead to their items in LaTeX', ['cite', '--link-citations', '--style', 'FILE/s.csl', '--to', 'latex', 'FILE/r.json',
+                                                      'FILE/c.json'], 0, [], {'s.csl': style_of(TITLE)}, out='\\hyperlink{ref-a}{A}\n'),
+    Fault('a cite that leads elsewhere in Markdown', ['cite', '--link-citations', '--style', 'FILE/s.csl', '--to', 'markdown',
+                                                      'FILE/r.json', 'FILE/c.json'], 0, [],
+          {'s.csl': style_of('<text variable="DOI"/>'), 'r.json': '[{"id": "a", "type": "book", "DOI": "10.1234/x"}]'},
+          out='[10.1234/x](<https://doi.org/10.1234/x>)\n'),
     Fault('a page from right to left', ['cite', '--style', 'FILE/s.csl', '--locale', 'ar', '--locales', 'FILE', '--standalone', 'FILE/r.json',
                                         'FILE/c.json'], 0, [], {'locales-ar.xml': LOCALE.replace('de-DE', 'ar')},
           out=page('Citations', '<p class="citation">A</p>\n', 'ar', 'rtl')),

@@ -8,10 +8,11 @@ whose citations and bibliographies of documents/ read as pandoc 2.17 writes them
 --record writes that file anew, by the pandoc that is installed); documents of examples and
 tests/documents, which `gamhilon render` answers as cite_run does; N triples of files (300, if not
 said), of which one is changed by changes drawn by the seed (mutations.py): each is answered, or
-refused with a line; and runs in three styles, and of `render`, of which each growth of memory is
-refused in turn (tests/documents/refuse.c, for which a C compiler must be there, and a program that
-brings no memory of its own, as that of `rt try` does). The last line is 'N passed, M failed', and
-the exit status is 1 where a test failed."""
+refused with a line; Markdown and LaTeX, beside those of the Python package and what pandoc reads of
+them where it is installed (forms.py); and runs in three styles, of items in Markdown and LaTeX, and
+of `render`, of which each growth of memory is refused in turn (tests/documents/refuse.c, for which
+a C compiler must be there, and a program that brings no memory of its own, as that of `rt try`
+does). The last line is 'N passed, M failed', and the exit status is 1 where a test failed."""
 import argparse
 import glob
 import json
@@ -27,6 +28,7 @@ HERE = os.path.dirname(os.path.abspath(__file__))
 ROOT = os.path.dirname(os.path.dirname(HERE))
 sys.path.append(os.path.dirname(HERE))
 
+import forms
 import pandoc
 import runs
 from cases import CASES
@@ -252,8 +254,8 @@ def try_mutations(program, count, seed):
     def is_refused(files):
         with tempfile.TemporaryDirectory(prefix='writer-') as folder:
             written(folder, dict(zip(('s.csl', 'r.json', 'c.json'), files)))
-            for verb in ('cite', 'bibliography'):
-                status, out, error = ended(program, verb, '--style', 's.csl', '--to', 'html', 'r.json', 'c.json', cwd=folder)
+            for verb, form in (('cite', 'html'), ('bibliography', 'html'), ('cite', 'latex'), ('bibliography', 'markdown')):
+                status, out, error = ended(program, verb, '--style', 's.csl', '--to', form, 'r.json', 'c.json', cwd=folder)
                 if not is_told(status, out, error):
                     raise Failed('status %d, %r, of %r' % (status, error[-300:], files))
         return status != 0
@@ -326,6 +328,7 @@ def tests_of(options):
         built_in = name_of(pandoc.STYLES[0])
         tests.append(('%s in %s, which is built in' % (name, built_in), try_document, document, built_in,
                       recorded[name][built_in + '.csl']))
+    tests += forms.tests()
     tests += [('names of styles', try_names), ('style sheet', try_sheet)]
     tests += [('built in: ' + name_of(path), try_built_in, path) for path in pandoc.STYLES]
     tests += [('rendered: ' + os.path.relpath(base, ROOT), try_rendered, base) for base in bases_of('examples', 'tests/documents/rows')]
@@ -333,6 +336,9 @@ def tests_of(options):
     for verb, path in zip(('cite', 'bibliography', 'cite'), pandoc.STYLES):
         tests.append(('growths of memory: %s in %s' % (verb, os.path.basename(path)), refused_in_turn,
                       [verb, '--style', path, 'r.json', 'c.json']))
+    for form in forms.FORMS:
+        tests.append(('growths of memory: items in ' + form, refused_in_turn,
+                      ['bibliography', '--to', form, '--style', pandoc.STYLES[0], 'r.json', 'c.json']))
     tests.append(('growths of memory: render', refused_in_turn, ['render', ROOT + '/examples/author_date.json']))
     tests.append(('the standard input in packets', try_packets))
     tests += [('growth: ' + name, try_notes, note) for name, note in NOTES.items()]

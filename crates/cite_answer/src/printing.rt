@@ -8,8 +8,8 @@ use std::alloc::{AllocError, Global};
 use style_file::style::CslStyle;
 
 /// The answer to these citations as JSON, without spaces between its parts. Quotes have their marks
-/// as text. A style of notes tells the number of the note of each citation; where a citation has
-/// none, that is its place among them, from 1.
+/// as text. In a style of notes each citation has the number of its note; where it names none, that
+/// is its index among the citations, from 1.
 ///
 /// # Errors
 ///

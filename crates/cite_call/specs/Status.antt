@@ -6,5 +6,6 @@ use Rattle.cite_call.specs.declared.error.CallError.TheVariants as errors
 -- those that cite_document has, where it has them; an answer has the status 0
 abbrev pub status : CallError → ℕ
 status (errors.Fault fault) = 2
+status (errors.LimitExceeded remark) = 10
 status errors.TooManyItems = 4
 status errors.OutOfMemory = 5

@@ -4,55 +4,67 @@ ghost use Rattle.std.specs.Prelude.{◌≡◌, IfErr};
 use crate::document::CallDocument;
 use crate::error::{CallError, answer_refusal};
 use crate::findings::print_findings;
+use crate::lines::print_lines;
 use crate::reader::TextReader;
 use crate::remark::Fault;
-use crate::style::check_length;
 use crate::texts::CallTexts;
 use cite_answer::printing::print_answer;
 use cite_host::answer::{Answer, Document};
+use cite_host::limits::check_style;
 use cite_locale::chain::LocaleChain;
 use std::alloc::Global;
 
-/// The citations and the bibliography of these texts as JSON: the answer's form is that of the
-/// driver's answers, and a bibliography is there where the style has one.
+/// The citations and the bibliography of these texts, which is there where the style has one: as
+/// JSON, in the form of the driver's answers, or as lines in the form that the options name.
 ///
 /// # Errors
 ///
-/// `Fault` where a text is wrong; `TooManyItems`; `OutOfMemory`.
+/// `Fault` where a text is wrong; `LimitExceeded` where the style takes more than its limits;
+/// `TooManyItems`; `OutOfMemory`.
 pub fn cite(alloc: Global, texts: CallTexts<'_>) -> Result<String, CallError> {
     let mut reader = TextReader::new(alloc);
     let document = reader.document(texts)?;
-    print_document(alloc, &document)
+    print_document(alloc, texts.style, &document)
 }
 
-fn print_document(alloc: Global, document: &CallDocument) -> Result<String, CallError> {
+/// Prints what comes of a document; this is the text of its style.
+fn print_document(
+    alloc: Global,
+    text: &[u8],
+    document: &CallDocument,
+) -> Result<String, CallError> {
     let style = &document.style;
     let language = document.language.as_str();
     let locale = LocaleChain::new(alloc, language, &style.locales, &document.locales)?;
-    let mut answer = answer_of(alloc, document, &locale)?;
+    let mut answer = answer_of(alloc, text, document, &locale)?;
     answer.citations.truncate(document.shown);
     let marks = locale.quote_marks();
-    let citations = &document.citations;
-    Ok(print_answer(alloc, style, citations, &answer, marks)?)
+    Ok(match document.lines {
+        Some(form) => print_lines(alloc, form, &answer, marks)?,
+        None => print_answer(alloc, style, &document.citations, &answer, marks)?,
+    })
 }
 
 /// What comes of a document, with these locales.
 fn answer_of(
     alloc: Global,
+    text: &[u8],
     document: &CallDocument,
     locale: &LocaleChain<'_>,
 ) -> Result<Answer, CallError> {
     let asked = Document {
         style: &document.style,
         locale,
+        language: document.language.as_str(),
         references: &document.references,
         citations: &document.citations,
         abbreviations: document.abbreviations.as_ref(),
         lists_items: true,
+        part: document.part,
     };
     match asked.answer(alloc) {
         Ok(answer) => Ok(answer),
-        Err(error) => Err(answer_refusal(alloc, error)),
+        Err(error) => Err(answer_refusal(alloc, text, &document.style, error)),
     }
 }
 
@@ -87,6 +99,10 @@ fn first_fault(
     match checked(alloc, reader, texts) {
         Ok(()) => Ok(None),
         Err(CallError::Fault(fault)) => Ok(Some(fault)),
+        Err(CallError::LimitExceeded(remark)) => Ok(Some(Fault {
+            remark,
+            parent: None,
+        })),
         Err(error) => Err(error),
     }
 }
@@ -94,5 +110,8 @@ fn first_fault(
 /// Reads these texts, and keeps nothing but warnings.
 fn checked(alloc: Global, reader: &mut TextReader, texts: CallTexts<'_>) -> Result<(), CallError> {
     let document = reader.document(texts)?;
-    check_length(alloc, &document.style)
+    match check_style(alloc, &document.style, document.part) {
+        Ok(()) => Ok(()),
+        Err(error) => Err(answer_refusal(alloc, texts.style, &document.style, error)),
+    }
 }

@@ -11,7 +11,7 @@ use csl_references::reference::References;
 use std::alloc::Global;
 
 impl TextReader {
-    /// The citations of JSON, each cite of which is of one of these items.
+    /// The citations of JSON, whose cites are of these items.
     ///
     /// # Errors
     ///

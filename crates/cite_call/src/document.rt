@@ -5,14 +5,16 @@ use crate::reader::TextReader;
 use crate::texts::CallTexts;
 use cite_host::cites::Citation;
 use cite_json::listing::uncited;
+use cite_limits::cost::Cost;
 use cite_locale::tags::usual_tag;
 use cite_walk::abbreviations::Abbreviations;
 use csl_references::reference::References;
 use std::alloc::{AllocError, Global};
 use style_file::locale::LocaleFile;
 use style_file::style::CslStyle;
+use write_forms::forms::Form;
 
-/// The language of a document where nothing tells one.
+/// The language of a document that names none.
 const LANGUAGE: &str = "en-US";
 
 /// What the texts of a call say.
@@ -24,6 +26,10 @@ pub(crate) struct CallDocument {
     pub references: References,
     pub citations: Vec<Citation>,
     pub abbreviations: Option<Abbreviations>,
+    /// What the style may take for each cite and each item.
+    pub part: Cost,
+    /// The form of the lines that are wanted in place of JSON.
+    pub lines: Option<Form>,
     /// How many of the citations are the caller's, and not there to list items alone.
     pub shown: usize,
 }
@@ -48,7 +54,12 @@ impl TextReader {
             let uncited = uncited(alloc, &references, &citations)?;
             citations.push(uncited)?;
         }
-        let CallOptions { abbreviations, .. } = options;
+        let CallOptions {
+            abbreviations,
+            part,
+            lines,
+            ..
+        } = options;
         Ok(CallDocument {
             style,
             language,
@@ -56,6 +67,8 @@ impl TextReader {
             references,
             citations,
             abbreviations,
+            part,
+            lines,
             shown,
         })
     }

@@ -5,26 +5,32 @@ ghost use Rattle.cite_call.specs.Status.{status};
 use crate::remark::{Fault, Remark, TextPlace};
 use crate::texts::TextName;
 use cite_host::error::AnswerError;
+use cite_limits::error::Excess;
+use cite_limits::places::place_in;
 use std::alloc::{AllocError, AllocFailed, Global};
 use std::fmt;
+use style_file::style::CslStyle;
 
 /// Why a call has no answer.
 #[derive(Debug, Drop)]
 pub enum CallError {
     /// A text is wrong.
     Fault(Fault),
+    /// The style takes more steps, or writes more, than it may.
+    LimitExceeded(Remark),
     /// There are too many items to number them.
     TooManyItems,
     OutOfMemory,
 }
 
 impl CallError {
-    /// The status that tells it: 2, 4 or 5.
+    /// Its status: 2, 4, 5 or 10.
     pub fn status(&self) -> u8
         ensures { result ≡ status self.now }
     {
         match self {
             CallError::Fault(_) => 2,
+            CallError::LimitExceeded(_) => 10,
             CallError::TooManyItems => 4,
             CallError::OutOfMemory => 5,
         }
@@ -51,14 +57,45 @@ pub(crate) fn refusal<W: fmt::Display>(
     }
 }
 
-/// Why a document of these texts has no answer.
-pub(crate) fn answer_refusal(alloc: Global, error: AnswerError) -> CallError {
+/// Why a document in a style has no answer; this is the text of the style.
+pub(crate) fn answer_refusal(
+    alloc: Global,
+    text: &[u8],
+    style: &CslStyle,
+    error: AnswerError,
+) -> CallError {
     match error {
         AnswerError::NoReference { citation, id } => no_item(alloc, citation, id.as_str()),
         AnswerError::StyleTooLong => refusal(alloc, TextName::Style, TextPlace::Whole, &error),
+        AnswerError::LimitExceeded(excess) => match limit_remark(alloc, text, style, &excess) {
+            Ok(remark) => CallError::LimitExceeded(remark),
+            Err(_) => CallError::OutOfMemory,
+        },
         AnswerError::TooManyItems => CallError::TooManyItems,
         AnswerError::OutOfMemory => CallError::OutOfMemory,
     }
+}
+
+/// What a style exceeds, with the place in its text.
+fn limit_remark(
+    alloc: Global,
+    text: &[u8],
+    style: &CslStyle,
+    excess: &Excess,
+) -> Result<Remark, AllocError> {
+    let text = str::from_utf8(text).unwrap_or("");
+    let place = match place_in(alloc, text, style, excess.place)? {
+        Some(place) => TextPlace::Line {
+            line: place.line,
+            column: place.column,
+        },
+        None => TextPlace::Whole,
+    };
+    Ok(Remark {
+        text: TextName::Style,
+        place,
+        message: format!(in alloc; "{excess}")?,
+    })
 }
 
 /// The error of a citation that cites no item.
@@ -96,6 +133,7 @@ impl fmt::Display for CallError {
                 let remark = &fault.remark;
                 write!(f, "{remark}")
             }
+            CallError::LimitExceeded(remark) => write!(f, "{remark}"),
             CallError::TooManyItems => f.write_str("there are too many items"),
             CallError::OutOfMemory => f.write_str("out of memory"),
         }

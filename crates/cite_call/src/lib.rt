@@ -1,5 +1,5 @@
 //! Citations and a bibliography by texts alone: a style file, locale files, items, citations and
-//! options. The answer is JSON, and so is what is wrong or odd in the texts.
+//! options. The answer is JSON or lines in a form, and what is wrong or odd in the texts is JSON.
 #![tactic(auto)]
 
 pub mod calling;
@@ -9,6 +9,7 @@ pub mod error;
 mod findings;
 mod items;
 mod json;
+mod lines;
 mod locales;
 mod options;
 mod reader;

@@ -4,10 +4,13 @@ use crate::json::{json_value, wrong_part};
 use crate::remark::TextPlace;
 use crate::texts::TextName;
 use cite_json::abbreviations::{AbbreviationsError, abbreviations_of};
+use cite_limits::budget::USUAL_PART;
+use cite_limits::cost::Cost;
 use cite_walk::abbreviations::Abbreviations;
 use csl_json::fault::{Pointer, Step};
 use serde_json::Value;
 use std::alloc::{AllocError, Global};
+use write_forms::forms::Form;
 
 /// The options of a call.
 #[derive(Drop)]
@@ -18,6 +21,10 @@ pub(crate) struct CallOptions {
     pub lists_all: bool,
     /// Short forms of texts, beside those of the items.
     pub abbreviations: Option<Abbreviations>,
+    /// What the style may take for each cite and each item.
+    pub part: Cost,
+    /// The form of the lines that are wanted in place of JSON.
+    pub lines: Option<Form>,
 }
 
 /// The options that a text has. An empty text has none.
@@ -30,6 +37,8 @@ pub(crate) fn options_of(alloc: Global, bytes: &[u8]) -> Result<CallOptions, Cal
         language: None,
         lists_all: false,
         abbreviations: None,
+        part: USUAL_PART,
+        lines: None,
     };
     if bytes.is_empty() {
         return Ok(options);
@@ -68,12 +77,63 @@ fn set_option(
             _ => return Err(wrong_option(alloc, key, "wanted true or false")),
         },
         "abbreviations" => options.abbreviations = Some(abbreviations_in(alloc, value)?),
+        "limits" => options.part = part_in(alloc, value)?,
+        "form" => options.lines = form_in(alloc, value)?,
         _ => {
-            let why = "unknown key; the options are `locale`, `nocite` and `abbreviations`";
+            let why = "unknown key; the options are `locale`, `nocite`, `abbreviations`, `limits` \
+                       and `form`";
             return Err(wrong_option(alloc, key, why));
         }
     }
     Ok(())
+}
+
+/// The form that the value names, if that is no JSON.
+fn form_in(alloc: Global, value: &Value) -> Result<Option<Form>, CallError> {
+    let name = match value {
+        Value::String(name) => name.as_str(),
+        _ => "",
+    };
+    match name {
+        "json" => Ok(None),
+        "text" => Ok(Some(Form::Text)),
+        "html" => Ok(Some(Form::Html)),
+        "markdown" => Ok(Some(Form::Markdown)),
+        "latex" => Ok(Some(Form::Latex)),
+        _ => {
+            let why = "wanted `text`, `html`, `markdown`, `latex` or `json`";
+            Err(wrong_option(alloc, "form", why))
+        }
+    }
+}
+
+/// The limits that the value is; those that it lacks are the usual ones.
+fn part_in(alloc: Global, value: &Value) -> Result<Cost, CallError> {
+    let wanted = "wanted an object of `steps` and `bytes`, which are numbers from 0 on";
+    let Some(object) = value.as_object() else {
+        return Err(wrong_option(alloc, "limits", wanted));
+    };
+    let mut part = USUAL_PART;
+    for key in object.keys() {
+        let number = match object.get(key.as_str()) {
+            Some(value) => limit_of(value),
+            None => None,
+        };
+        match (key.as_str(), number) {
+            ("steps", Some(steps)) => part.steps = steps,
+            ("bytes", Some(bytes)) => part.bytes = bytes,
+            _ => return Err(wrong_option(alloc, "limits", wanted)),
+        }
+    }
+    Ok(part)
+}
+
+/// The limit that a value is, if it is one.
+fn limit_of(value: &Value) -> Option<usize> {
+    match value.as_u64() {
+        Some(limit) => usize::try_from(limit).ok(),
+        None => None,
+    }
 }
 
 /// The abbreviations that the value is.

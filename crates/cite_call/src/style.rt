@@ -3,9 +3,6 @@ use crate::error::{CallError, refusal};
 use crate::reader::TextReader;
 use crate::remark::{Fault, ParentStyle, Remark, TextPlace};
 use crate::texts::TextName;
-use cite_program::build::program_of;
-use cite_program::program::ProgramError;
-use cite_sorting::order::keys_of;
 use std::alloc::{AllocError, Global};
 use style_faults::error::StyleError;
 use style_faults::warning::Warning;
@@ -104,33 +101,4 @@ fn dependent_fault(alloc: Global, style: DependentStyle) -> Result<Fault, AllocE
             language: default_locale,
         }),
     })
-}
-
-/// Refuses a style whose macros make a layout or a key too long.
-///
-/// # Errors
-///
-/// `Fault` where they do; `OutOfMemory`.
-pub(crate) fn check_length(alloc: Global, style: &CslStyle) -> Result<(), CallError> {
-    match build_programs(alloc, style) {
-        Ok(()) => Ok(()),
-        Err(ProgramError::TooLong) => {
-            let why = "the macros of the style are too long";
-            Err(refusal(alloc, TextName::Style, TextPlace::Whole, &why))
-        }
-        Err(ProgramError::OutOfMemory) => Err(CallError::OutOfMemory),
-    }
-}
-
-/// Builds the programs of a style, and keeps none.
-fn build_programs(alloc: Global, style: &CslStyle) -> Result<(), ProgramError> {
-    let macros = style.macros.as_slice();
-    let citation = &style.citation;
-    let _layout = program_of(alloc, macros, &citation.layout.elements)?;
-    let _keys = keys_of(alloc, style, &citation.sort)?;
-    if let Some(bibliography) = &style.bibliography {
-        let _layout = program_of(alloc, macros, &bibliography.layout.elements)?;
-        let _keys = keys_of(alloc, style, &bibliography.sort)?;
-    }
-    Ok(())
 }

@@ -26,6 +26,10 @@ pub enum OutputFormat {
     Text,
     /// HTML.
     Html,
+    /// Markdown, as CommonMark and pandoc read it.
+    Markdown,
+    /// LaTeX, for a document that loads hyperref.
+    Latex,
     /// The JSON of docs/ANSWER.md.
     Json,
 }
@@ -46,12 +50,17 @@ pub struct Options {
     pub is_standalone: bool,
     /// Whether citations are followed by the bibliography.
     pub has_bibliography: bool,
-    /// Whether cites lead to their items, in HTML.
+    /// Whether cites lead to their items, in HTML, Markdown and LaTeX.
     pub links_citations: bool,
     /// Whether references that aren't cited are listed.
     pub lists_uncited: bool,
     /// The file of abbreviations.
     pub abbreviations: Option<String>,
+    /// How many steps the style may take for each cite and each item, where the command line says
+    /// it.
+    pub most_steps: Option<usize>,
+    /// How many bytes the style may write for each, where the command line says it.
+    pub most_bytes: Option<usize>,
     /// The files of references: the one that is named as a file first, then those of
     /// `--references`.
     pub references: Vec<String>,

@@ -1,4 +1,4 @@
-//! The command line, as the crate `clap` is told of it.
+//! The command line, as a value of the crate `clap`.
 use crate::usage::{ABOUT, DOCUMENT_NOTES, PROGRAM_NOTES, STYLES_NOTES, VERSION, WRITING_NOTES};
 use clap::builder::ValueParser;
 use clap::{Arg, ArgAction, Command};
@@ -68,7 +68,7 @@ fn command<'a>(alloc: Global, verb: Verb) -> Result<Command<'a>, AllocError> {
 fn cite<'a>(alloc: Global) -> Result<Command<'a>, AllocError> {
     let citations = citations(alloc).required(true);
     let command = writing(alloc, "cite", "Prints each citation", citations)?;
-    let links = "Cites lead to their items, in HTML";
+    let links = "Cites lead to their items, in HTML, Markdown and LaTeX";
     let help = "The bibliography follows the citations";
     command
         .arg(flag(alloc, "link-citations", links))?
@@ -95,8 +95,8 @@ fn writing<'a>(
 }
 
 /// The options of a command that writes, and its files.
-fn words<'a>(alloc: Global, citations: Arg<'a>) -> [Arg<'a>; 11] {
-    let formats: &'a [&'a str] = &["text", "html", "json"];
+fn words<'a>(alloc: Global, citations: Arg<'a>) -> [Arg<'a>; 13] {
+    let formats: &'a [&'a str] = &["text", "html", "markdown", "latex", "json"];
     [
         style(alloc),
         valued(
@@ -119,6 +119,16 @@ fn words<'a>(alloc: Global, citations: Arg<'a>) -> [Arg<'a>; 11] {
             alloc,
             "nocite",
             "References that aren't cited are listed, too",
+        ),
+        limit(
+            alloc,
+            "most-steps",
+            "How many steps the style may take for each cite and each item (5000)",
+        ),
+        limit(
+            alloc,
+            "most-bytes",
+            "How many bytes the style may write for each cite and each item (100000)",
         ),
         more(alloc),
         references(alloc),
@@ -205,7 +215,7 @@ fn css<'a>(alloc: Global) -> Result<Command<'a>, AllocError> {
 
 // ---- options
 
-/// The option of the form of what is written, of which these are the names.
+/// The option of the form of what is written, with the names of the forms.
 fn form<'a>(alloc: Global, formats: &'a [&'a str]) -> Arg<'a> {
     valued(alloc, "to", "FORMAT", "The form of what is written (text)").value_parser(
         ValueParser::Names(formats),

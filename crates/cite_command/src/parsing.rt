@@ -6,13 +6,13 @@ use clap::ArgMatches;
 use clap::error::ErrorKind;
 use std::alloc::{AllocError, Global};
 
-/// How deep the elements of a layout of a document may nest where nothing tells it.
+/// How deep the elements of a layout of a document may nest by default.
 const DEPTH: usize = 100;
 
-/// How many elements a layout of a document may have where nothing tells it.
+/// How many elements a layout of a document may have by default.
 const ELEMENTS: usize = 100_000;
 
-/// The command that these words say, of which the first is the program.
+/// The command that these words say. The first word is the program.
 ///
 /// # Errors
 ///
@@ -24,7 +24,7 @@ pub fn command_of(alloc: Global, words: &[String]) -> Result<Command, CommandLin
     }
 }
 
-/// What comes of words of which `clap` makes no command: a text that they ask for, or an error.
+/// What comes of words that `clap` refuses: a text that they ask for, or an error.
 fn unmatched(alloc: Global, error: &clap::Error) -> Result<Command, CommandLineError> {
     let text = format!(in alloc; "{error}")?;
     match error.kind() {
@@ -37,7 +37,7 @@ fn unmatched(alloc: Global, error: &clap::Error) -> Result<Command, CommandLineE
     }
 }
 
-/// What an error of `clap` says before it tells the usage.
+/// What an error of `clap` says before the usage.
 fn in_one_line(alloc: Global, text: &str) -> Result<String, AllocError> {
     let mut line = String::new(alloc);
     for part in text.lines() {
@@ -112,6 +112,8 @@ fn options_in(alloc: Global, words: &ArgMatches<'_>) -> Result<Options, CommandL
         links_citations: false,
         lists_uncited: words.get_flag("nocite"),
         abbreviations: text_at(alloc, words, "abbreviations")?,
+        most_steps: words.get_one::<usize>("most-steps"),
+        most_bytes: words.get_one::<usize>("most-bytes"),
         references: references_in(alloc, words)?,
         citations: text_at(alloc, words, "CITATIONS")?,
     })
@@ -143,10 +145,12 @@ fn text_at(alloc: Global, words: &ArgMatches<'_>, id: &str) -> Result<Option<Str
     }
 }
 
-/// The form of what is written; a whole page is HTML where none is told.
+/// The form of what is written; a whole page is HTML by default.
 fn format_in(words: &ArgMatches<'_>) -> OutputFormat {
     match words.get_str("to") {
         Some("html") => OutputFormat::Html,
+        Some("markdown") => OutputFormat::Markdown,
+        Some("latex") => OutputFormat::Latex,
         Some("json") => OutputFormat::Json,
         None if words.get_flag("standalone") => OutputFormat::Html,
         _ => OutputFormat::Text,
@@ -177,7 +181,7 @@ fn push_texts(
     Ok(())
 }
 
-/// Options of which one file at most is the standard input, and a whole page is HTML.
+/// Options, where one file at most is the standard input, and a whole page is HTML.
 fn checked(options: Options) -> Result<Options, CommandLineError> {
     if inputs(&options) > 1 {
         return Err(CommandLineError::Usage(UsageError::TwoInputs));

@@ -11,7 +11,8 @@ pub(crate) const PROGRAM_NOTES: &str = "\
 The exit status is 0 where there is an answer, 1 where a file can't be read or the answer can't be
 written, 2 where a file is wrong, 3 where macros of a document call each other in a ring, 4 where
 there are too many items, 5 where memory is refused, 7 where a layout of a document nests deeper
-than --depth, 8 where it has more elements than --elements, and 64 where the command line is wrong.
+than --depth, 8 where it has more elements than --elements, 10 where a style takes more steps or
+writes more than --most-steps and --most-bytes let it, and 64 where the command line is wrong.
 
 Example: with the references of books.json, in a style that is built in,
 
@@ -22,6 +23,9 @@ pub(crate) const WRITING_NOTES: &str = "\
 CITATIONS is a JSON list of citations, which are lists of cites: objects with id, and maybe locator,
 label, prefix, suffix, suppress-author, author-only, hidden and note. The name - stands for the
 standard input.
+
+A style has --most-steps and --most-bytes once for each cite and once for each item, and forty times
+for the whole; one cite or item may take twice as much. No published style comes near.
 
 Example: with the references of books.json, in Debian's style apa,
 

@@ -1,14 +1,17 @@
 //! The citations and the bibliography of a document.
 use crate::cites::Citation;
 use crate::driven::driven_style;
-use crate::entries::Items;
+use crate::entries::{Items, cited_references};
 use crate::error::AnswerError;
 use crate::joining::joined;
-use crate::programs::Programs;
+use crate::limits::{budget_of, programs_within, spend_around};
 use crate::requests::{Driver, bibliography_request, filled_driver, locators_of};
 use crate::setting::Setting;
 use crate::sorting::{SortedCitation, sorted_citations};
 use crate::writer::TaskWriter;
+use cite_collation::alphabets::Alphabet;
+use cite_limits::budget::Budget;
+use cite_limits::cost::Cost;
 use cite_locale::chain::LocaleChain;
 use cite_pieces::formatting::NOTHING_ASKED;
 use cite_pieces::piece::Wrap;
@@ -18,9 +21,9 @@ use cite_trees::streams::{cites_of, stream_of, stream_of_child};
 use cite_walk::abbreviations::Abbreviations;
 use csl_base::entry::PlainEntry;
 use csl_base::style::IndependentStyle;
-use csl_driver::error::DriverError;
+use csl_driver::error::FinishError;
 use csl_driver::rendered::{BibliographyItem, Rendered, RenderedBibliography, RenderedCitation};
-use csl_references::reference::References;
+use csl_references::reference::{Reference, References};
 use host_memo::memo::Memo;
 use std::alloc::{AllocError, Global};
 use style_file::style::{CslStyle, StyleClass};
@@ -30,6 +33,8 @@ use style_file::style::{CslStyle, StyleClass};
 pub struct Document<'d> {
     pub style: &'d CslStyle,
     pub locale: &'d LocaleChain<'d>,
+    /// The tag of its language, as `sv-SE`: texts are sorted by its alphabet.
+    pub language: &'d str,
     pub references: &'d References,
     pub citations: &'d [Citation],
     /// Short forms of texts, where there are some beside those of the references.
@@ -37,6 +42,8 @@ pub struct Document<'d> {
     /// Whether the items of the bibliography are wanted. Order, numbers and suffixes follow it in
     /// any case.
     pub lists_items: bool,
+    /// What the style may take for each cite and each item, and forty times for the document.
+    pub part: Cost,
 }
 
 /// What comes of a document.
@@ -64,16 +71,43 @@ impl<'d> Document<'d> {
     /// # Errors
     ///
     /// `NoReference` where an item is cited that isn't there; `StyleTooLong` where the macros of
-    /// the style make a layout too long; `TooManyItems`; `OutOfMemory`.
+    /// the style make a layout too long; `LimitExceeded` where the style takes more than its budget
+    /// has; `TooManyItems`; `OutOfMemory`.
     pub fn answer(&self, alloc: Global) -> Result<Answer, AnswerError> {
-        let programs = Programs::of_style(alloc, self.style)?;
+        let cited = cited_references(alloc, self.references, self.citations)?;
+        let budget = self.budget(&cited);
+        let programs = programs_within(alloc, self.style, &budget)?;
         let setting = Setting {
             style: self.style,
             locale: self.locale,
+            alphabet: Alphabet::of_tag(self.language),
             programs: &programs,
             abbreviations: self.abbreviations,
+            budget: &budget,
         };
-        let items = Items::cited(alloc, setting, self.references, self.citations)?;
+        self.answer_in(alloc, setting, cited)
+    }
+
+    /// What the document may take, which cites these items.
+    fn budget(&self, cited: &[&Reference]) -> Budget {
+        budget_of(
+            self.style,
+            self.part,
+            self.references,
+            self.citations,
+            cited,
+        )
+    }
+
+    /// The citations and the bibliography of these items.
+    fn answer_in(
+        &self,
+        alloc: Global,
+        setting: Setting<'_>,
+        cited: Vec<&'d Reference>,
+    ) -> Result<Answer, AnswerError> {
+        spend_around(self.style, setting.budget, self.citations, &cited)?;
+        let items = Items::in_order(alloc, setting, cited)?;
         let citations = sorted_citations(alloc, setting, &items, self.citations)?;
         let rendered = self.rendered(alloc, setting, &items, &citations)?;
         self.finished(alloc, &rendered, &citations)
@@ -92,8 +126,8 @@ impl<'d> Document<'d> {
         rendered_in(alloc, &style, items, writer)
     }
 
-    /// Whether the numbers of notes are told to the driver: the style asks where cites stand, and
-    /// it is one of notes, or citations tell theirs.
+    /// Whether the driver gets the numbers of notes: the style asks where cites stand, and it is
+    /// one of notes, or citations have numbers.
     fn has_notes(&self, setting: Setting<'_>) -> bool {
         setting.programs.asked_place.cites
             && (self.style.class == StyleClass::Note
@@ -240,6 +274,7 @@ fn rendered_by<'e>(
     let request = bibliography_request(style, order);
     match driver.answer_csl_with(&request, memo) {
         Ok((rendered, _account)) => Ok(rendered),
-        Err(error) => Err(AnswerError::from(DriverError::from(error))),
+        Err(FinishError::Driver(error)) => Err(AnswerError::from(error)),
+        Err(FinishError::Writer(error)) => Err(AnswerError::from(error)),
     }
 }

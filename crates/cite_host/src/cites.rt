@@ -10,7 +10,7 @@ pub struct Cite {
     pub locator: Option<CiteLocator>,
     /// What stands before it, with markup.
     pub prefix: String,
-    /// What stands behind it, with markup.
+    /// What follows it, with markup.
     pub suffix: String,
     pub suppresses_author: bool,
     /// Whether only its author is written.

@@ -44,7 +44,7 @@ pub(crate) fn driven_style(
     })
 }
 
-/// Options of names, none of which is told.
+/// Options of names, without a value.
 const NO_OPTIONS: InheritableNameOptions = InheritableNameOptions {
     and: None,
     name_delimiter: None,
@@ -55,7 +55,7 @@ const NO_OPTIONS: InheritableNameOptions = InheritableNameOptions {
     initialize_with: None,
 };
 
-/// Formatting of which nothing is asked for.
+/// Formatting that asks for nothing.
 const UNFORMATTED: StyleFormatting = StyleFormatting {
     font_style: None,
     font_variant: None,
@@ -85,7 +85,7 @@ fn driven_citation(alloc: Global, citation: &Citation) -> Result<driven::Citatio
     })
 }
 
-/// The layout of a citation, of which the driver writes the delimiter.
+/// The layout of a citation. The driver writes its delimiter.
 fn citation_layout(alloc: Global, layout: &Layout) -> Result<driven::Layout, AllocError> {
     Ok(driven::Layout {
         elements: named(alloc, "")?,
@@ -132,8 +132,8 @@ fn driven_bibliography(
     })
 }
 
-/// The distance of lines, of which a style file has one at least; the greatest that the driver
-/// knows where it is greater.
+/// The distance of lines, which is one at least in a style file, and at most the greatest that the
+/// driver knows.
 fn spacing_of(lines: u32) -> NonZeroI16 {
     let lines = i16::try_from(lines).unwrap_or(i16::MAX);
     NonZeroI16::new(lines).unwrap_or(NonZeroI16::MAX)

@@ -4,6 +4,7 @@ use crate::error::AnswerError;
 use crate::facts::first_cite;
 use crate::programs::BibliographyProgram;
 use crate::setting::Setting;
+use cite_limits::error::LimitError;
 use cite_sorting::order::sorted_places;
 use csl_base::entry::PlainEntry;
 use csl_base::seq::Seq;
@@ -23,14 +24,16 @@ pub(crate) struct Items<'d> {
 }
 
 impl<'d> Items<'d> {
-    /// The items that these citations cite.
-    pub fn cited(
+    /// These items in the order of the bibliography.
+    ///
+    /// # Errors
+    ///
+    /// `Exceeded` where the keys take more than the budget has; `OutOfMemory`.
+    pub fn in_order(
         alloc: Global,
         setting: Setting<'_>,
-        references: &'d References,
-        citations: &[Citation],
-    ) -> Result<Items<'d>, AnswerError> {
-        let cited = cited_references(alloc, references, citations)?;
+        cited: Vec<&'d Reference>,
+    ) -> Result<Items<'d>, LimitError> {
         let ordered = match setting.bibliography() {
             Some(bibliography) => in_order(alloc, setting, bibliography, cited)?,
             None => cited,
@@ -67,7 +70,11 @@ impl<'d> Items<'d> {
 }
 
 /// The items that are cited, in the order of their first cites.
-fn cited_references<'d>(
+///
+/// # Errors
+///
+/// `NoReference` where an item is cited that isn't there; `OutOfMemory`.
+pub(crate) fn cited_references<'d>(
     alloc: Global,
     references: &'d References,
     citations: &[Citation],
@@ -94,7 +101,7 @@ fn in_order<'s, 'd>(
     setting: Setting<'s>,
     bibliography: &'s BibliographyProgram<'s>,
     cited: Vec<&'d Reference>,
-) -> Result<Vec<&'d Reference>, AllocError> {
+) -> Result<Vec<&'d Reference>, LimitError> {
     if bibliography.keys.is_empty() {
         return Ok(cited);
     }

@@ -1,4 +1,5 @@
 //! Why there is no answer.
+use cite_limits::error::{Excess, LimitError};
 use cite_program::program::ProgramError;
 use csl_driver::error::DriverError;
 use std::alloc::{AllocError, AllocFailed};
@@ -11,6 +12,8 @@ pub enum AnswerError {
     NoReference { citation: usize, id: String },
     /// The macros of the style make a layout too long.
     StyleTooLong,
+    /// The style takes more steps, or writes more, than it may.
+    LimitExceeded(Excess),
     /// There are too many items to number them.
     TooManyItems,
     OutOfMemory,
@@ -37,6 +40,15 @@ impl From<ProgramError> for AnswerError {
     }
 }
 
+impl From<LimitError> for AnswerError {
+    fn from(error: LimitError) -> AnswerError {
+        match error {
+            LimitError::Exceeded(excess) => AnswerError::LimitExceeded(excess),
+            LimitError::OutOfMemory => AnswerError::OutOfMemory,
+        }
+    }
+}
+
 impl From<DriverError> for AnswerError {
     fn from(error: DriverError) -> AnswerError {
         match error {
@@ -57,6 +69,7 @@ impl fmt::Display for AnswerError {
                 f.write_str(id.as_str())
             }
             AnswerError::StyleTooLong => f.write_str("the macros of the style are too long"),
+            AnswerError::LimitExceeded(excess) => write!(f, "{excess}"),
             AnswerError::TooManyItems => f.write_str("there are too many items"),
             AnswerError::OutOfMemory => f.write_str("out of memory"),
         }

@@ -1,4 +1,4 @@
-//! What is known of a cite before the driver tells more.
+//! What is known of a cite before the driver decides more.
 use cite_walk::cite::{CiteFacts, CiteLocator};
 use csl_references::reference::Reference;
 

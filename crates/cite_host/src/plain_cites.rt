@@ -1,10 +1,14 @@
-//! Cites of which the same is written: that is done once.
+//! Cites that are written alike: that is done once.
 use crate::writer::{Asked, TaskWriter};
+use cite_limits::budget::Budget;
+use cite_limits::cost::Cost;
+use cite_limits::error::{LimitError, StylePlace};
 use cite_trees::trees::shown_of;
 use cite_walk::cite::Repetition;
 use csl_lookup::means::Means;
 use csl_lookup::state::CollapseVerdict;
 use csl_writers::cite::Cite;
+use host_memo::table::copied;
 use std::alloc::{AllocError, Global};
 use style_file::style::StyleClass;
 
@@ -17,14 +21,14 @@ pub(crate) struct PlainCite {
     number: usize,
     standing: CiteStanding,
     repetition: Option<Repetition>,
-    /// By what means its item is told from others.
+    /// By what means its item is disambiguated.
     means: Means,
     verdict: Option<CollapseVerdict>,
     /// Whether it begins a note.
     begins_note: bool,
 }
 
-/// Where a cite stands behind others, as far as its style asks.
+/// Where a cite follows others, as far as its style asks.
 #[derive(Clone, Copy, PartialEq, Eq, Hash)]
 struct CiteStanding {
     is_first: bool,
@@ -75,12 +79,39 @@ impl<'s, 'i, 'd> TaskWriter<'s, 'i, 'd> {
     }
 }
 
-/// What of a cite is shown.
-pub(crate) fn shown(alloc: Global, cite: &Cite) -> Result<Cite, AllocError> {
-    Ok(Cite {
-        children: shown_of(alloc, &cite.children)?,
-        checked_disambiguate: cite.checked_disambiguate,
-        first_name: None,
-        identifier_usage: cite.identifier_usage,
-    })
+/// A cite that was written, and what it took. A copy of it takes as much.
+#[derive(Drop)]
+pub(crate) struct KnownCite {
+    pub cite: Cite,
+    pub cost: Cost,
+}
+
+impl KnownCite {
+    /// The same cite once more.
+    ///
+    /// # Errors
+    ///
+    /// `Exceeded` where the budget has less left than it takes; `OutOfMemory`.
+    pub fn copied(&self, budget: &Budget) -> Result<Cite, LimitError> {
+        budget.spend(self.cost, StylePlace::Citation)?;
+        Ok(copied(&self.cite)?)
+    }
+
+    /// What of it is shown.
+    ///
+    /// # Errors
+    ///
+    /// Those of `copied`.
+    pub fn shown(&self, alloc: Global, budget: &Budget) -> Result<KnownCite, LimitError> {
+        budget.spend(self.cost, StylePlace::Citation)?;
+        Ok(KnownCite {
+            cite: Cite {
+                children: shown_of(alloc, &self.cite.children)?,
+                checked_disambiguate: self.cite.checked_disambiguate,
+                first_name: None,
+                identifier_usage: self.cite.identifier_usage,
+            },
+            cost: self.cost,
+        })
+    }
 }

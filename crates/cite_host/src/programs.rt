@@ -16,7 +16,7 @@ pub(crate) struct Programs<'s> {
     pub citation: Program<'s>,
     pub citation_keys: Vec<Key<'s>>,
     pub bibliography: Option<BibliographyProgram<'s>>,
-    /// Whether a year suffix stands behind the first date: no layout has a place for it (CSL 1.0.2,
+    /// Whether a year suffix follows the first date: no layout has a place for it (CSL 1.0.2,
     /// "Disambiguation").
     pub adds_year_suffix: bool,
     /// What of the place of a cite its text depends on.

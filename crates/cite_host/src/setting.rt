@@ -1,5 +1,8 @@
 //! A style in use.
 use crate::programs::{BibliographyProgram, Programs};
+use cite_collation::alphabets::Alphabet;
+use cite_limits::budget::Budget;
+use cite_limits::error::StylePlace;
 use cite_locale::chain::LocaleChain;
 use cite_sorting::keys::KeyScene;
 use cite_walk::abbreviations::Abbreviations;
@@ -11,9 +14,12 @@ use style_file::style::CslStyle;
 pub(crate) struct Setting<'s> {
     pub style: &'s CslStyle,
     pub locale: &'s LocaleChain<'s>,
+    pub alphabet: Alphabet,
     pub programs: &'s Programs<'s>,
     /// Short forms of texts, where the document brings some.
     pub abbreviations: Option<&'s Abbreviations>,
+    /// What the document may take.
+    pub budget: &'s Budget,
 }
 
 impl<'s> Setting<'s> {
@@ -32,6 +38,7 @@ impl<'s> Setting<'s> {
             kind: SceneKind::Cite,
             adds_year_suffix: self.programs.adds_year_suffix,
             abbreviations: self.abbreviations,
+            budget: self.budget,
         }
     }
 
@@ -45,6 +52,7 @@ impl<'s> Setting<'s> {
             kind: SceneKind::Item,
             adds_year_suffix: self.programs.adds_year_suffix,
             abbreviations: self.abbreviations,
+            budget: self.budget,
         }
     }
 
@@ -53,8 +61,11 @@ impl<'s> Setting<'s> {
         KeyScene {
             style: self.style,
             locale: self.locale,
+            alphabet: self.alphabet,
             names: &self.style.citation.names,
             abbreviations: self.abbreviations,
+            budget: self.budget,
+            place: StylePlace::Citation,
         }
     }
 
@@ -63,8 +74,11 @@ impl<'s> Setting<'s> {
         KeyScene {
             style: self.style,
             locale: self.locale,
+            alphabet: self.alphabet,
             names: &bibliography.section.names,
             abbreviations: self.abbreviations,
+            budget: self.budget,
+            place: StylePlace::Bibliography,
         }
     }
 }

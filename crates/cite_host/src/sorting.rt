@@ -3,6 +3,7 @@ use crate::cites::{Citation, Cite};
 use crate::entries::Items;
 use crate::facts::first_cite;
 use crate::setting::Setting;
+use cite_limits::error::LimitError;
 use cite_sorting::keys::Key;
 use cite_sorting::order::{sorted_places, tied_places};
 use indexmap::IndexSet;
@@ -22,13 +23,13 @@ pub(crate) struct SortedCitation<'d> {
 ///
 /// # Errors
 ///
-/// Where memory is refused.
+/// `Exceeded` where the keys take more than the budget has; `OutOfMemory`.
 pub(crate) fn sorted_citations<'d>(
     alloc: Global,
     setting: Setting<'_>,
     items: &Items<'d>,
     citations: &'d [Citation],
-) -> Result<Vec<SortedCitation<'d>>, AllocError> {
+) -> Result<Vec<SortedCitation<'d>>, LimitError> {
     let ranks = item_ranks(alloc, setting, items, citations)?;
     let mut sorted = Vec::new(alloc);
     for (number, citation) in citations.iter().enumerate() {
@@ -50,15 +51,15 @@ fn cite_places(
     items: &Items<'_>,
     citation: &Citation,
     ranks: &[usize],
-) -> Result<Vec<usize>, AllocError> {
+) -> Result<Vec<usize>, LimitError> {
     let keys = setting.programs.citation_keys.as_slice();
     if keys.is_empty() || !is_sorted(citation) {
-        return own_places(alloc, citation);
+        return Ok(own_places(alloc, citation)?);
     }
     if keys.iter().any(|key| key.reads_locator()) && has_locator(citation) {
         return places_by_keys(alloc, setting, keys, items, citation);
     }
-    places_by_ranks(alloc, items, citation, ranks)
+    Ok(places_by_ranks(alloc, items, citation, ranks)?)
 }
 
 /// Whether the cites of a citation are sorted, where the style has keys.
@@ -70,14 +71,14 @@ fn has_locator(citation: &Citation) -> bool {
     citation.cites.iter().any(|cite| cite.locator.is_some())
 }
 
-/// The ranks of items by the keys of citations, at the places of the items. Those of which all keys
-/// are equal have one rank. An item that is in no citation that is sorted has none of its own.
+/// The ranks of items by the keys of citations, at the places of the items. Those whose keys are
+/// all equal have one rank. An item that is in no citation that is sorted has none of its own.
 fn item_ranks(
     alloc: Global,
     setting: Setting<'_>,
     items: &Items<'_>,
     citations: &[Citation],
-) -> Result<Vec<usize>, AllocError> {
+) -> Result<Vec<usize>, LimitError> {
     let keys = setting.programs.citation_keys.as_slice();
     let mut ranks = Vec::new(alloc);
     if keys.is_empty() {
@@ -174,7 +175,7 @@ fn places_by_keys<'s>(
     keys: &'s [Key<'s>],
     items: &Items<'_>,
     citation: &Citation,
-) -> Result<Vec<usize>, AllocError> {
+) -> Result<Vec<usize>, LimitError> {
     let mut facts = Vec::new(alloc);
     for cite in &citation.cites {
         let place = items.place(cite.id.as_str()).unwrap_or(0);

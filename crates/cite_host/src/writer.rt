@@ -1,9 +1,12 @@
 //! What the driver asks for is written.
 use crate::entries::Items;
-use crate::plain_cites::{PlainCite, shown};
+use crate::plain_cites::{KnownCite, PlainCite};
+use crate::programs::BibliographyProgram;
 use crate::setting::Setting;
 use crate::sorting::SortedCitation;
 use crate::wording::{author_alone, begins_sentence, with_affixes, with_capital_term};
+use cite_limits::cost::Cost;
+use cite_limits::error::LimitError;
 use cite_pieces::formatting::TextFormatting;
 use cite_pieces::marked::with_field_marks;
 use cite_pieces::output::{AffixPlace, Element, written};
@@ -38,9 +41,9 @@ pub(crate) struct TaskWriter<'s, 'i, 'd> {
     /// Whether the items of the bibliography are wanted.
     lists_items: bool,
     /// What was written of plain cites that are compared.
-    compared_cites: IndexMap<PlainCite, driver::Cite>,
+    compared_cites: IndexMap<PlainCite, KnownCite>,
     /// What was written of plain cites that are shown.
-    shown_cites: IndexMap<PlainCite, driver::Cite>,
+    shown_cites: IndexMap<PlainCite, KnownCite>,
 }
 
 /// What marks the first field of an item as a whole: the driver sets apart what is marked first.
@@ -59,9 +62,9 @@ pub(crate) struct Asked<'k> {
 }
 
 impl<'s, 'i, 'd> Source for TaskWriter<'s, 'i, 'd> {
-    type Error = AllocError;
+    type Error = LimitError;
 
-    fn write(&mut self, alloc: Global, key: &TaskKey) -> Result<driver::Cite, AllocError> {
+    fn write(&mut self, alloc: Global, key: &TaskKey) -> Result<driver::Cite, LimitError> {
         let Some(item) = self.items.place(key.entry.as_str()) else {
             return Ok(nothing(alloc));
         };
@@ -99,10 +102,10 @@ impl<'s, 'i, 'd> TaskWriter<'s, 'i, 'd> {
         }
     }
 
-    /// Writes a cite; a plain one of which the same was written isn't written again.
-    fn write_cite(&mut self, asked: Asked<'_>) -> Result<driver::Cite, AllocError> {
+    /// Writes a cite; a plain one that was written alike isn't written again.
+    fn write_cite(&mut self, asked: Asked<'_>) -> Result<driver::Cite, LimitError> {
         let Some(plain) = self.plain_cite(asked)? else {
-            return self.write_anew(asked);
+            return Ok(self.write_anew(asked)?.cite);
         };
         if asked.shown.is_some() {
             self.write_shown(asked, plain)
@@ -116,12 +119,14 @@ impl<'s, 'i, 'd> TaskWriter<'s, 'i, 'd> {
         &mut self,
         asked: Asked<'_>,
         plain: PlainCite,
-    ) -> Result<driver::Cite, AllocError> {
-        if let Some(cite) = self.compared_cites.get(&plain) {
-            return copied(cite);
+    ) -> Result<driver::Cite, LimitError> {
+        let budget = self.setting.budget;
+        if let Some(known) = self.compared_cites.get(&plain) {
+            return known.copied(budget);
         }
-        let cite = self.write_anew(asked)?;
-        self.compared_cites.insert(plain, copied(&cite)?)?;
+        let known = self.write_anew(asked)?;
+        let cite = copied(&known.cite)?;
+        self.compared_cites.insert(plain, known)?;
         Ok(cite)
     }
 
@@ -130,24 +135,39 @@ impl<'s, 'i, 'd> TaskWriter<'s, 'i, 'd> {
         &mut self,
         asked: Asked<'_>,
         plain: PlainCite,
-    ) -> Result<driver::Cite, AllocError> {
-        if let Some(cite) = self.shown_cites.get(&plain) {
-            return copied(cite);
+    ) -> Result<driver::Cite, LimitError> {
+        let budget = self.setting.budget;
+        if let Some(known) = self.shown_cites.get(&plain) {
+            return known.copied(budget);
         }
-        let cite = match self.compared_cites.get(&plain) {
-            Some(cite) => shown(self.alloc, cite)?,
+        let known = match self.compared_cites.get(&plain) {
+            Some(known) => known.shown(self.alloc, budget)?,
             None => self.write_anew(asked)?,
         };
-        self.shown_cites.insert(plain, copied(&cite)?)?;
+        let cite = copied(&known.cite)?;
+        self.shown_cites.insert(plain, known)?;
         Ok(cite)
     }
 
     /// Writes a cite by the layout, with the words that stand around it.
-    fn write_anew(&self, asked: Asked<'_>) -> Result<driver::Cite, AllocError> {
+    fn write_anew(&self, asked: Asked<'_>) -> Result<KnownCite, LimitError> {
         let Some(facts) = self.cite_facts(asked) else {
-            return Ok(nothing(self.alloc));
+            return Ok(KnownCite {
+                cite: nothing(self.alloc),
+                cost: Cost::NOTHING,
+            });
         };
-        let mut cite = write_cite(self.alloc, self.setting.cite_scene(), facts)?;
+        let cite = write_cite(self.alloc, self.setting.cite_scene(), facts)?;
+        let cost = cite.cost;
+        Ok(KnownCite {
+            cite: self.finished(asked, cite)?,
+            cost,
+        })
+    }
+
+    /// A cite that was written, as it is shown or compared.
+    fn finished(&self, asked: Asked<'_>, cite: WrittenCite) -> Result<driver::Cite, AllocError> {
+        let mut cite = cite;
         let pieces = replace(&mut cite.pieces, Pieces::new(self.alloc));
         let pieces = for_purpose(self.alloc, asked.purpose, pieces)?;
         cite.pieces = self.worded(asked, self.with_quotes_of_fields(pieces)?)?;
@@ -191,14 +211,24 @@ impl<'s, 'i, 'd> TaskWriter<'s, 'i, 'd> {
     }
 
     /// Writes an item of the bibliography, with the affixes of its layout.
-    fn write_item(&self, item: usize, standing: &Standing) -> Result<driver::Cite, AllocError> {
+    fn write_item(&self, item: usize, standing: &Standing) -> Result<driver::Cite, LimitError> {
         let Some(facts) = self.item_facts(item, standing) else {
             return Ok(nothing(self.alloc));
         };
         let Some(bibliography) = self.setting.bibliography() else {
             return Ok(nothing(self.alloc));
         };
-        let mut listed = write_cite(self.alloc, self.setting.item_scene(bibliography), facts)?;
+        let listed = write_cite(self.alloc, self.setting.item_scene(bibliography), facts)?;
+        Ok(self.listed(bibliography, listed)?)
+    }
+
+    /// An item that was written, as it is listed.
+    fn listed(
+        &self,
+        bibliography: &BibliographyProgram<'_>,
+        listed: WrittenCite,
+    ) -> Result<driver::Cite, AllocError> {
+        let mut listed = listed;
         let pieces = replace(&mut listed.pieces, Pieces::new(self.alloc));
         let layout = &bibliography.section.layout;
         let pieces = if bibliography.section.options.second_field_align.is_some() {
@@ -210,8 +240,8 @@ impl<'s, 'i, 'd> TaskWriter<'s, 'i, 'd> {
         self.told(listed, TextFormatting::NORMAL)
     }
 
-    /// An item in its layout, of which so many pieces are the first field; with the affixes of the
-    /// layout where it has no other.
+    /// An item in its layout, whose first field is so many pieces; with the affixes of the layout
+    /// where it has no other field.
     fn with_first_field(
         &self,
         layout: &Layout,
@@ -249,7 +279,7 @@ impl<'s, 'i, 'd> TaskWriter<'s, 'i, 'd> {
         with_field_marks(self.alloc, pieces, self.setting.locale.quote_marks())
     }
 
-    /// What the driver is told of a cite in text of this formatting.
+    /// What the driver gets of a cite in text of this formatting.
     fn told(&self, cite: WrittenCite, around: TextFormatting) -> Result<driver::Cite, AllocError> {
         let WrittenCite {
             pieces,
@@ -258,6 +288,7 @@ impl<'s, 'i, 'd> TaskWriter<'s, 'i, 'd> {
             first_forms,
             has_tested_disambiguate,
             usage,
+            cost: _,
         } = cite;
         let first_name = match first_forms {
             Some(forms) => Some(NameDisambiguationProperties {
@@ -274,7 +305,7 @@ impl<'s, 'i, 'd> TaskWriter<'s, 'i, 'd> {
     }
 }
 
-/// Leaves out what the driver is told of the parts of a cite: of one that is shown it asks nothing.
+/// Leaves out the marks of the parts of a cite: of one that is shown the driver asks nothing.
 fn leave_out_marks(alloc: Global, cite: &mut WrittenCite) -> Result<(), AllocError> {
     let pieces = replace(&mut cite.pieces, Pieces::new(alloc));
     cite.pieces = pieces.without_marks(alloc)?;
@@ -295,7 +326,7 @@ fn for_purpose(
     }
 }
 
-/// A cite of which nothing is written.
+/// A cite that writes nothing.
 fn nothing(alloc: Global) -> driver::Cite {
     driver::Cite {
         children: ElemChildren::new(alloc),

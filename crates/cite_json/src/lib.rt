@@ -1,5 +1,4 @@
-//! Citations read from JSON: a list of citations, each of which is a list of cites; and
-//! abbreviations.
+//! Citations read from JSON, as a list of lists of cites; and abbreviations.
 #![tactic(auto)]
 
 pub mod abbreviations;

@@ -3,8 +3,8 @@ use cite_host::cites::Citation;
 use indexmap::IndexSet;
 use std::alloc::{AllocError, Global};
 
-/// Gives citations that tell no note one of their own, where others tell theirs: the next one
-/// behind those of the citations before, which no citation tells.
+/// Gives citations without a note one of their own, where others have one: the next after those of
+/// the citations before that no citation has.
 ///
 /// # Errors
 ///
@@ -37,7 +37,7 @@ fn told_notes(alloc: Global, citations: &[Citation]) -> Result<IndexSet<usize>, 
     Ok(told)
 }
 
-/// The first note behind this one that no citation tells. Where there is none, it is the greatest
+/// The first note after this one that no citation has. Where there is none, it is the greatest
 /// number.
 fn own_note(told: &IndexSet<usize>, last: usize) -> usize {
     let mut note = last.saturating_add(1);

@@ -23,7 +23,7 @@ pub struct ReadCitations {
 /// csl-citation.json: its cites as `citationItems`, and maybe a `citationID` and `properties`, with
 /// the number of its note as `noteIndex` (0 for a citation in the text) and `unsorted` where its
 /// cites keep their order. A cite is an object with an `id` and maybe a `locator`, a `label`, which
-/// is `page` where it tells none, a `prefix` and a `suffix`, which may have markup as the texts of
+/// is `page` where it is missing, a `prefix` and a `suffix`, which may have markup as the texts of
 /// items, `suppress-author`, `author-only`, `hidden` and `note`.
 ///
 /// # Errors
@@ -359,7 +359,7 @@ fn note_at(object: &Map<String, Value>, key: &str) -> Option<usize> {
     note_number(object.get(key)?)
 }
 
-/// The kind of the locator of a cite: a page where it tells none that is known.
+/// The kind of the locator of a cite: a page where it names no known one.
 fn locator_type_of(object: &Map<String, Value>) -> LocatorType {
     match object.get("label") {
         Some(Value::String(name)) => {

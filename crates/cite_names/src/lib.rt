@@ -8,3 +8,4 @@ pub mod parts;
 pub mod person;
 pub mod rules;
 pub mod scripts;
+pub mod shown;

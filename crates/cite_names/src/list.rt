@@ -1,9 +1,10 @@
 //! Lists of names (CSL 1.0.2, "Name" and "Et-al").
-use crate::forms::{form_of, written_names};
+use crate::forms::{form_of, shown_by};
 use crate::others::told_names;
 use crate::parts::{PartRole, WrittenPart, may_be_inverted, parts_of};
 use crate::rules::NameRules;
 use crate::scripts::is_spaced;
+use crate::shown::ShownNames;
 use cite_pieces::formatting::NOTHING_ASKED;
 use cite_pieces::output::{Element, Output, element_with};
 use cite_pieces::piece::Mark;
@@ -50,18 +51,20 @@ impl<'s> NameList<'s, '_> {
         forms: &[DisambiguatedNameForm],
     ) -> Result<(), AllocError> {
         let told = told_names(names);
-        let written = written_names(forms).min(told.len());
-        for (place, name) in told.iter().take(written).enumerate() {
+        let shown = shown_by(forms, self.rules.use_last, told.len(), names.len());
+        let first = shown.first_names(names.len());
+        for (place, name) in told.iter().take(first).enumerate() {
             if place > 0 {
                 self.push_between(output, names, place)?;
             }
             let form = forms.get(place).copied().unwrap_or(form_of(&self.rules));
             self.push_name(alloc, output, name, place, form)?;
         }
-        if written > 0 && written < names.len() {
-            self.push_cut(alloc, output, names, written)?;
+        match shown {
+            ShownNames::All | ShownNames::First(0) => Ok(()),
+            ShownNames::First(written) => self.push_et_al(output, names, written),
+            ShownNames::FirstAndLast(_) => self.push_last(alloc, output, names),
         }
-        Ok(())
     }
 
     /// Writes what stands before the name at this place, which isn't the first.
@@ -107,17 +110,12 @@ impl<'s> NameList<'s, '_> {
     }
 
     /// Writes what stands for the names behind the first ones.
-    fn push_cut(
+    fn push_et_al(
         &self,
-        alloc: Global,
         output: &mut Output<'s>,
         names: &[Name],
         written: usize,
     ) -> Result<(), AllocError> {
-        let are_all_told = told_names(names).len() == names.len();
-        if self.rules.use_last && are_all_told && written.saturating_add(2) <= names.len() {
-            return self.push_last(alloc, output, names);
-        }
         if self.words.et_al.is_empty() {
             return Ok(());
         }

@@ -1,5 +1,9 @@
 //! The options of names, handed down from a style to a citation or a bibliography, from that to
 //! names, and from these to a name (CSL 1.0.2, "Inheritable Name Options").
+ghost use Rattle.std.specs.Prelude.{◌≡◌, Some};
+ghost use Rattle.std.specs.Option.{option_map_or};
+ghost use Rattle.cite_names.specs.Cuts.{cut_at, cut_by_key, cut_of, use_last_by_key, use_last_of};
+
 use style_file::names::{
     DelimiterPrecedes, Name, NameAnd, NameAsSortOrder, NameForm, NameOptions, NamePart,
 };
@@ -53,7 +57,14 @@ pub struct NameRules<'s> {
 
 impl<'s> NameRules<'s> {
     /// The rules of an element `name`, to which this is handed down.
-    pub fn of_name(name: Option<&'s Name>, down: HandedDown<'s>) -> NameRules<'s> {
+    pub fn of_name(name: Option<&'s Name>, down: HandedDown<'s>) -> NameRules<'s>
+        ensures cut { let d = down.entry in let section = d.section.now in
+            let own = option_map_or (λ n. n.now.options) name.entry section in
+            result.cut ≡ cut_by_key d.sort_key (cut_of own section d.style.now d.is_subsequent) }
+        ensures use_last { let d = down.entry in let section = d.section.now in
+            let own = option_map_or (λ n. n.now.options) name.entry section in
+            result.use_last ≡ use_last_by_key d.sort_key (use_last_of own section d.style.now) }
+    {
         let layers = Layers {
             own: name.map_or(down.section, |name| &name.options),
             section: down.section,
@@ -84,7 +95,10 @@ impl<'s> NameRules<'s> {
     }
 
     /// The rules by which names are written for a key of sorting (CSL 1.0.2, "Sorting").
-    fn for_sorting(self, key: SortKey, demotion: ParticleDemotion) -> NameRules<'s> {
+    fn for_sorting(self, key: SortKey, demotion: ParticleDemotion) -> NameRules<'s>
+        ensures cut { result.cut ≡ cut_by_key (Some key) self.entry.cut }
+        ensures use_last { result.use_last ≡ use_last_by_key (Some key) self.entry.use_last }
+    {
         NameRules {
             and: None,
             delimiter: SORT_DELIMITER,
@@ -139,8 +153,11 @@ impl<'s> Layers<'s> {
             .unwrap_or(DelimiterPrecedes::Contextual)
     }
 
-    /// The cut of a list of names, where both of its numbers are told.
-    fn cut(self, is_subsequent: bool) -> Option<Cut> {
+    /// The cut of a list of names, where both of its numbers are there.
+    fn cut(self, is_subsequent: bool) -> Option<Cut>
+        ensures { result ≡ cut_of self.entry.own.now self.entry.section.now self.entry.style.now
+            is_subsequent }
+    {
         let min = self
             .own
             .et_al_min
@@ -167,7 +184,10 @@ impl<'s> Layers<'s> {
         cut_at(later_min.or(min), later_first.or(use_first))
     }
 
-    fn use_last(self) -> bool {
+    fn use_last(self) -> bool
+        ensures { result
+            ≡ use_last_of self.entry.own.now self.entry.section.now self.entry.style.now }
+    {
         self.own
             .et_al_use_last
             .or(self.section.et_al_use_last)
@@ -216,13 +236,17 @@ impl<'s> Layers<'s> {
     }
 }
 
-fn cut_at(min: Option<u32>, use_first: Option<u32>) -> Option<Cut> {
+fn cut_at(min: Option<u32>, use_first: Option<u32>) -> Option<Cut>
+    ensures { result ≡ cut_at min use_first }
+{
     let (min, use_first) = (min?, use_first?);
     Some(Cut { min, use_first })
 }
 
 /// The cut with what a key of sorting has in its place.
-fn cut_by_key(cut: Option<Cut>, key: SortKey) -> Option<Cut> {
+fn cut_by_key(cut: Option<Cut>, key: SortKey) -> Option<Cut>
+    ensures { result ≡ cut_by_key (Some key) cut }
+{
     let min = key.names_min.or(cut.map(|cut| cut.min));
     let use_first = key.names_use_first.or(cut.map(|cut| cut.use_first));
     cut_at(min, use_first)

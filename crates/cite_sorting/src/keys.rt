@@ -1,6 +1,10 @@
 //! The values of keys.
-use crate::collation::{CollationKey, SEPARATOR};
+use cite_collation::alphabets::Alphabet;
+use cite_collation::key::{CollationKey, SEPARATOR};
 use cite_dates::sorting::sorted_date;
+use cite_limits::budget::Budget;
+use cite_limits::cost::Cost;
+use cite_limits::error::{LimitError, StylePlace};
 use cite_locale::chain::LocaleChain;
 use cite_names::forms::{form_of, own_forms, written_names};
 use cite_names::others::told_names;
@@ -72,10 +76,16 @@ fn test_reads_locator(test: &Test) -> bool {
 pub struct KeyScene<'s> {
     pub style: &'s CslStyle,
     pub locale: &'s LocaleChain<'s>,
+    /// The letters of the language of the locale, in order.
+    pub alphabet: Alphabet,
     /// The options of names of the citation or the bibliography.
     pub names: &'s InheritedNameOptions,
     /// Short forms of texts, where the document brings some.
     pub abbreviations: Option<&'s Abbreviations>,
+    /// What the document may take.
+    pub budget: &'s Budget,
+    /// The part of the style whose keys they are.
+    pub place: StylePlace,
 }
 
 impl<'s> KeyScene<'s> {
@@ -83,15 +93,16 @@ impl<'s> KeyScene<'s> {
     ///
     /// # Errors
     ///
-    /// Where memory is refused.
+    /// `Exceeded` where the keys take more than the budget has; `OutOfMemory`.
     pub fn value(
         &self,
         alloc: Global,
         key: &'s Key<'s>,
         cite: CiteFacts<'_>,
-    ) -> Result<Option<CollationKey>, AllocError> {
+    ) -> Result<Option<CollationKey>, LimitError> {
         let text = match (key.key.by, &key.program) {
             (SortBy::Variable(variable), _) => {
+                self.budget.spend(cite.price(variable), self.place)?;
                 self.variable_text(alloc, key.key, variable, cite)?
             }
             (SortBy::Macro(_), Some(program)) => self.macro_text(alloc, key.key, program, cite)?,
@@ -100,8 +111,7 @@ impl<'s> KeyScene<'s> {
         if text.as_str().trim().is_empty() {
             return Ok(None);
         }
-        let own = self.locale.own_letters();
-        Ok(Some(CollationKey::of_text(alloc, text.as_str(), own)?))
+        Ok(Some(CollationKey::of_text(alloc, text.as_str(), self.alphabet)?))
     }
 
     /// What a macro writes.
@@ -111,7 +121,7 @@ impl<'s> KeyScene<'s> {
         key: SortKey,
         program: &'s Program<'s>,
         cite: CiteFacts<'_>,
-    ) -> Result<String, AllocError> {
+    ) -> Result<String, LimitError> {
         let scene = Scene {
             style: self.style,
             locale: self.locale,
@@ -120,9 +130,10 @@ impl<'s> KeyScene<'s> {
             kind: SceneKind::Key(key),
             adds_year_suffix: false,
             abbreviations: self.abbreviations,
+            budget: self.budget,
         };
         let written = write_cite(alloc, scene, cite)?;
-        all_texts(alloc, &written.pieces)
+        Ok(all_texts(alloc, &written.pieces)?)
     }
 
     fn variable_text(
@@ -131,27 +142,10 @@ impl<'s> KeyScene<'s> {
         key: SortKey,
         variable: Variable,
         cite: CiteFacts<'_>,
-    ) -> Result<String, AllocError> {
+    ) -> Result<String, LimitError> {
         match variable {
-            Variable::Text(TextVariable::CitationLabel) => {
-                label_of(alloc, cite.reference)?.plain(alloc)
-            }
-            Variable::Text(variable) => match cite.text(variable) {
-                Some(text) => text.plain(alloc),
-                None => Ok(String::new(alloc)),
-            },
-            Variable::Number(variable) => match cite.number(alloc, variable)? {
-                Some(value) => {
-                    let plain = value.text().plain(alloc)?;
-                    sorted_number(alloc, plain.as_str())
-                }
-                None => Ok(String::new(alloc)),
-            },
-            Variable::Date(variable) => match cite.reference.date(variable) {
-                Some(date) => sorted_date(alloc, date, 3),
-                None => Ok(String::new(alloc)),
-            },
             Variable::Name(variable) => self.names_text(alloc, key, variable, cite),
+            _ => Ok(plain_text(alloc, variable, cite)?),
         }
     }
 
@@ -162,7 +156,7 @@ impl<'s> KeyScene<'s> {
         key: SortKey,
         variable: NameVariable,
         cite: CiteFacts<'_>,
-    ) -> Result<String, AllocError> {
+    ) -> Result<String, LimitError> {
         let Some(names) = cite.reference.names(variable) else {
             return Ok(String::new(alloc));
         };
@@ -180,6 +174,8 @@ impl<'s> KeyScene<'s> {
                 },
             )
         };
+        let separators = rules.sort_separator.len().saturating_mul(names.len());
+        self.budget.spend(Cost::of_bytes(separators), self.place)?;
         let forms = own_forms(alloc, &rules, names.len())?;
         let mut text = String::new(alloc);
         let told = told_names(names);
@@ -187,6 +183,35 @@ impl<'s> KeyScene<'s> {
             push_name(alloc, &mut text, &rules, name, form_of(&rules))?;
         }
         Ok(text)
+    }
+}
+
+/// The value of a variable that isn't one of names.
+fn plain_text(
+    alloc: Global,
+    variable: Variable,
+    cite: CiteFacts<'_>,
+) -> Result<String, AllocError> {
+    match variable {
+        Variable::Text(TextVariable::CitationLabel) => {
+            label_of(alloc, cite.reference)?.plain(alloc)
+        }
+        Variable::Text(variable) => match cite.text(variable) {
+            Some(text) => text.plain(alloc),
+            None => Ok(String::new(alloc)),
+        },
+        Variable::Number(variable) => match cite.number(alloc, variable)? {
+            Some(value) => {
+                let plain = value.text().plain(alloc)?;
+                sorted_number(alloc, plain.as_str())
+            }
+            None => Ok(String::new(alloc)),
+        },
+        Variable::Date(variable) => match cite.reference.date(variable) {
+            Some(date) => sorted_date(alloc, date, 3),
+            None => Ok(String::new(alloc)),
+        },
+        Variable::Name(_) => Ok(String::new(alloc)),
     }
 }
 

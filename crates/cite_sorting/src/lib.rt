@@ -1,6 +1,5 @@
 //! Sorting (CSL 1.0.2, "Sorting").
 #![tactic(auto)]
 
-pub mod collation;
 pub mod keys;
 pub mod order;

@@ -1,10 +1,11 @@
 //! The order of items.
-use crate::collation::CollationKey;
 use crate::keys::{Key, KeyScene};
+use cite_collation::key::CollationKey;
+use cite_limits::error::LimitError;
 use cite_program::build::program_of;
 use cite_program::program::ProgramError;
 use cite_walk::cite::CiteFacts;
-use std::alloc::{AllocError, Global};
+use std::alloc::Global;
 use std::cmp::Reverse;
 use std::mem::replace;
 use style_file::sections::{SortBy, SortDirection, SortKey};
@@ -34,18 +35,18 @@ pub fn keys_of<'s>(
     Ok(keys)
 }
 
-/// The places of cites in the order of the keys. Cites of which all keys are equal stay in their
-/// order; one without a value is behind those that have one.
+/// The places of cites in the order of the keys. Cites whose keys are all equal stay in their
+/// order; one without a value follows those that have one.
 ///
 /// # Errors
 ///
-/// Where memory is refused.
+/// `Exceeded` where the keys take more than the budget has; `OutOfMemory`.
 pub fn sorted_places<'s>(
     alloc: Global,
     scene: KeyScene<'s>,
     keys: &'s [Key<'s>],
     cites: &[CiteFacts<'_>],
-) -> Result<Vec<usize>, AllocError> {
+) -> Result<Vec<usize>, LimitError> {
     let mut places = Vec::new(alloc);
     for ties in tied_places(alloc, scene, keys, cites)? {
         for place in ties {
@@ -55,18 +56,18 @@ pub fn sorted_places<'s>(
     Ok(places)
 }
 
-/// The places of cites in the order of the keys, those together of which all keys are equal. A key
-/// is written only of cites that those before it don't tell apart.
+/// The places of cites in the order of the keys, in groups whose keys are all equal. A key is
+/// written only of cites that are tied by those before it.
 ///
 /// # Errors
 ///
-/// Where memory is refused.
+/// `Exceeded` where the keys take more than the budget has; `OutOfMemory`.
 pub fn tied_places<'s>(
     alloc: Global,
     scene: KeyScene<'s>,
     keys: &'s [Key<'s>],
     cites: &[CiteFacts<'_>],
-) -> Result<Vec<Vec<usize>>, AllocError> {
+) -> Result<Vec<Vec<usize>>, LimitError> {
     let mut all = Vec::new(alloc);
     for (place, _) in cites.iter().enumerate() {
         all.push(place)?;
@@ -79,14 +80,14 @@ pub fn tied_places<'s>(
     Ok(ties)
 }
 
-/// Cites that are tied, told apart by one more key.
+/// Cites that are tied, in the order of one more key.
 fn told_apart<'s>(
     alloc: Global,
     scene: KeyScene<'s>,
     key: &'s Key<'s>,
     cites: &[CiteFacts<'_>],
     ties: Vec<Vec<usize>>,
-) -> Result<Vec<Vec<usize>>, AllocError> {
+) -> Result<Vec<Vec<usize>>, LimitError> {
     let mut finer = Vec::new(alloc);
     for tied in ties {
         if tied.len() < 2 {
@@ -98,7 +99,7 @@ fn told_apart<'s>(
     Ok(finer)
 }
 
-/// Adds cites that are tied, told apart by one more key.
+/// Adds cites that are tied, in the order of one more key.
 fn push_told_apart<'s>(
     alloc: Global,
     scene: KeyScene<'s>,
@@ -106,7 +107,7 @@ fn push_told_apart<'s>(
     cites: &[CiteFacts<'_>],
     tied: Vec<usize>,
     finer: &mut Vec<Vec<usize>>,
-) -> Result<(), AllocError> {
+) -> Result<(), LimitError> {
     let mut equal = Vec::new(alloc);
     let mut before = None;
     for Row { value, place } in sorted_rows(alloc, scene, key, cites, tied)? {
@@ -135,7 +136,7 @@ fn sorted_rows<'s>(
     key: &'s Key<'s>,
     cites: &[CiteFacts<'_>],
     places: Vec<usize>,
-) -> Result<Vec<Row>, AllocError> {
+) -> Result<Vec<Row>, LimitError> {
     let mut rows = Vec::new(alloc);
     for place in places {
         if let Some(cite) = cites.get(place) {
@@ -155,7 +156,7 @@ struct Row {
     place: usize,
 }
 
-/// The value of a key, all of which have one direction. One that is missing is behind the others.
+/// The value of a key of one direction. One that is missing follows the others.
 #[derive(PartialEq, Eq, PartialOrd, Ord, Drop)]
 enum Value {
     Ascending(CollationKey),

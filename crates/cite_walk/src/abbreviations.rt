@@ -4,7 +4,7 @@ use csl_vocabulary::variable::TextVariable;
 use indexmap::IndexMap;
 use std::alloc::{AllocError, Global};
 
-/// The short forms of texts. Case is not told apart in these.
+/// The short forms of texts, without regard to case.
 #[derive(Drop)]
 pub struct Abbreviations {
     tables: Vec<AbbreviationTable>,

@@ -1,5 +1,7 @@
 //! What is known of a cite, and what comes of it.
 use crate::abbreviations::Abbreviations;
+use cite_limits::budget::Budget;
+use cite_limits::cost::Cost;
 use cite_locale::chain::LocaleChain;
 use cite_pieces::pieces::Pieces;
 use cite_program::program::Program;
@@ -22,10 +24,12 @@ pub struct Scene<'s> {
     /// The options of names of the citation or the bibliography.
     pub names: &'s InheritedNameOptions,
     pub kind: SceneKind,
-    /// Whether a year suffix stands behind the first date.
+    /// Whether a year suffix follows the first date.
     pub adds_year_suffix: bool,
     /// Short forms of texts, where the document brings some.
     pub abbreviations: Option<&'s Abbreviations>,
+    /// What its document may take.
+    pub budget: &'s Budget,
 }
 
 /// What is written.
@@ -89,4 +93,6 @@ pub struct WrittenCite {
     /// Whether a condition `disambiguate` was tested.
     pub has_tested_disambiguate: bool,
     pub usage: IdentifierUsage,
+    /// What it took of the budget.
+    pub cost: Cost,
 }

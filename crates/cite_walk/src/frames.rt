@@ -1,4 +1,5 @@
 //! Whether variables were called, and whether they had values (CSL 1.0.2, "Group").
+use cite_limits::error::StylePlace;
 
 /// What was called since an element began.
 #[derive(Clone, Copy)]
@@ -11,6 +12,14 @@ pub(crate) struct Frame {
     pub used_before: usize,
     /// How many names had been written before.
     pub names_before: usize,
+    /// How many bytes had been paid for before.
+    pub bytes_before: usize,
+    /// How long what stands between its children is.
+    pub delimiter: usize,
+    /// Whether what is written in it is changed at its end, as to another case.
+    pub is_changed: bool,
+    /// The macro that it is, if it is one.
+    pub called: Option<StylePlace>,
 }
 
 impl Frame {
@@ -19,6 +28,10 @@ impl Frame {
         has_value: false,
         used_before: 0,
         names_before: 0,
+        bytes_before: 0,
+        delimiter: 0,
+        is_changed: false,
+        called: None,
     };
 
     /// Whether all that was called is empty.

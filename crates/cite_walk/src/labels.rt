@@ -52,8 +52,7 @@ fn push_names(label: &mut String, names: &[Name]) -> Result<(), AllocError> {
     Ok(())
 }
 
-/// How many letters a label has of each of its names, of which there are so many. Those behind the
-/// fourth have none.
+/// How many letters a label has of each of so many names. Those after the fourth have none.
 fn letters_of_names(names: usize) -> &'static [usize] {
     match names {
         0 => &[],

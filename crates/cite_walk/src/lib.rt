@@ -2,6 +2,7 @@
 #![tactic(auto)]
 
 pub mod abbreviations;
+pub mod charges;
 pub mod cite;
 mod conditions;
 mod dates;

@@ -45,7 +45,7 @@ impl<'s> Walk<'s, '_> {
         Ok(())
     }
 
-    /// What of a link is shown: what its element makes of its text stands behind its beginning.
+    /// What is shown of a link: its beginning, and then what its element makes of its text.
     fn link_text(
         &self,
         element: Element<'s>,
@@ -111,7 +111,7 @@ fn link_of<'p>(
     }
 }
 
-/// A URL without a scheme may stand behind a prefix that begins its address.
+/// A URL without a scheme may follow a prefix that begins its address.
 fn url_link<'p>(alloc: Global, prefix: &'p str, value: &str) -> Result<Link<'p>, AllocError> {
     let own = url_address(alloc, value)?;
     let beginning = if own.is_none() {

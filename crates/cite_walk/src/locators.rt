@@ -11,7 +11,7 @@ use std::alloc::{AllocError, Global};
 #[derive(Drop)]
 pub(crate) struct ShownLocator {
     pub kind: LocatorType,
-    /// What stands behind its label.
+    /// What follows its label.
     pub text: RichText,
     /// What its label counts.
     pub counted: String,

@@ -28,7 +28,7 @@ struct Block<'c> {
 }
 
 impl<'s, 'c> Walk<'s, 'c> {
-    /// Writes names. Tells whether there are some, or they are left out. Those are left out that
+    /// Writes names. Returns whether there are some, or they are left out. Those are left out that
     /// are there, or that something may stand in for.
     pub(crate) fn write_names(
         &mut self,
@@ -110,7 +110,8 @@ impl<'s, 'c> Walk<'s, 'c> {
             .is_some_and(|words| !words.is_empty())
     }
 
-    fn handed_down(&self) -> HandedDown<'s> {
+    /// What is handed down to names here.
+    pub(crate) fn handed_down(&self) -> HandedDown<'s> {
         let style = self.scene.style;
         HandedDown {
             section: &self.scene.names.name,
@@ -231,8 +232,8 @@ impl<'s, 'c> Walk<'s, 'c> {
         }
     }
 
-    /// The variable that the driver is told of: items of the bibliography are compared by their
-    /// names alone.
+    /// The variable that the driver gets: items of the bibliography are compared by their names
+    /// alone.
     fn told_variable(&self, variable: NameVariable) -> NameVariable {
         match self.scene.kind {
             SceneKind::Item => NameVariable::Author,
@@ -281,18 +282,22 @@ impl<'s, 'c> Walk<'s, 'c> {
     }
 
     fn names_element(&self, names: &NamesInUse<'s>) -> Element<'s> {
-        let handed_down = self
-            .scene
-            .names
-            .names_delimiter
-            .as_deref()
-            .or(self.scene.style.names.names_delimiter.as_deref());
         Element {
-            delimiter: names.delimiter.or(handed_down).unwrap_or(""),
+            delimiter: names.delimiter.unwrap_or(self.names_delimiter()),
             display: names.display,
             mark: self.author_mark(),
             ..element_with(names.affixes, names.formatting)
         }
+    }
+
+    /// What stands between the names of two variables where their element says nothing.
+    pub(crate) fn names_delimiter(&self) -> &'s str {
+        self.scene
+            .names
+            .names_delimiter
+            .as_deref()
+            .or(self.scene.style.names.names_delimiter.as_deref())
+            .unwrap_or("")
     }
 
     /// The form of each name of each block.
@@ -314,7 +319,7 @@ impl<'s, 'c> Walk<'s, 'c> {
     }
 
     /// The form of each name. Those of the first names of a cite are noted, and then raised to what
-    /// tells the item from others.
+    /// disambiguates the item.
     fn forms_of(
         &mut self,
         rules: &NameRules<'s>,

@@ -3,6 +3,10 @@ use crate::cite::{CiteFacts, Scene, SceneKind, WrittenCite};
 use crate::frames::Frame;
 use crate::locators::{ShownLocator, shown_locator};
 use crate::values::Value;
+use cite_limits::budget::Allowance;
+use cite_limits::cost::Cost;
+use cite_limits::error::{LimitError, StylePlace};
+use cite_limits::paths::called_place;
 use cite_pieces::output::{Element, Output, element_with};
 use cite_pieces::piece::Mark;
 use cite_program::program::{Program, Step};
@@ -19,12 +23,12 @@ use style_file::element::{Group, Text};
 ///
 /// # Errors
 ///
-/// Where memory is refused.
+/// `Exceeded` where the style takes more than its budget or one cite may; `OutOfMemory`.
 pub fn write_cite<'s>(
     alloc: Global,
     scene: Scene<'s>,
     cite: CiteFacts<'_>,
-) -> Result<WrittenCite, AllocError> {
+) -> Result<WrittenCite, LimitError> {
     let language = language_of(alloc, &scene, &cite)?;
     let locator = match cite.locator {
         Some(locator) => Some(shown_locator(alloc, scene.locale, locator)?),
@@ -49,12 +53,16 @@ pub fn write_cite<'s>(
         has_written_suffix: false,
         dates: 0,
         locator,
+        allowance: scene.budget.allowance(cite.reference),
+        bytes: 0,
+        cost: Cost::NOTHING,
     };
     walk.take_all(scene.program)?;
-    walk.written()
+    scene.budget.take(walk.cost);
+    Ok(walk.written()?)
 }
 
-/// The language of text cases: that of the item, if it tells one, else that of the locale.
+/// The language of text cases: that of the item, if it has one, else that of the locale.
 fn language_of(
     alloc: Global,
     scene: &Scene<'_>,
@@ -79,7 +87,7 @@ pub(crate) struct Walk<'s, 'c> {
     /// How many pieces the first element of the layout has that has text; 0 before it.
     first_pieces: usize,
     /// What was called in the groups, macros and substitutes that are open.
-    frames: Vec<Frame>,
+    pub frames: Vec<Frame>,
     /// The same of the layout.
     outermost: Frame,
     /// The place of the step that is taken.
@@ -87,7 +95,7 @@ pub(crate) struct Walk<'s, 'c> {
     /// Where the walk goes on.
     next: usize,
     /// Variables with a value that were written, in their order.
-    used: Vec<Variable>,
+    pub used: Vec<Variable>,
     /// Variables that stood in for names.
     suppressed: Vec<Variable>,
     pub names: Vec<NamedPersons>,
@@ -99,6 +107,12 @@ pub(crate) struct Walk<'s, 'c> {
     /// How many dates are marked.
     pub dates: usize,
     pub locator: Option<ShownLocator>,
+    /// What may be taken yet.
+    pub allowance: Allowance,
+    /// How many bytes were paid for: at least as many as are written.
+    pub bytes: usize,
+    /// What was taken.
+    pub cost: Cost,
 }
 
 impl<'s, 'c> Walk<'s, 'c> {
@@ -106,14 +120,15 @@ impl<'s, 'c> Walk<'s, 'c> {
         self.output.alloc()
     }
 
-    /// Takes the steps of a program, but for those that are left out.
-    fn take_all(&mut self, program: &Program<'s>) -> Result<(), AllocError> {
+    /// Takes the steps of a program, but for those that are left out. Each is paid for before.
+    fn take_all(&mut self, program: &Program<'s>) -> Result<(), LimitError> {
         for _ in 0..program.steps.len() {
             let Some(step) = program.steps.get(self.next).copied() else {
                 return Ok(());
             };
             self.here = self.next;
             self.next = self.next.saturating_add(1);
+            self.pay(&step)?;
             self.take(step)?;
             if self.first_pieces == 0 && self.output.depth() == 0 {
                 self.first_pieces = self.output.piece_count();
@@ -131,6 +146,7 @@ impl<'s, 'c> Walk<'s, 'c> {
             first_forms,
             has_tested_disambiguate,
             usage,
+            cost,
             ..
         } = self;
         Ok(WrittenCite {
@@ -140,6 +156,7 @@ impl<'s, 'c> Walk<'s, 'c> {
             first_forms,
             has_tested_disambiguate,
             usage,
+            cost,
         })
     }
 
@@ -162,8 +179,8 @@ impl<'s, 'c> Walk<'s, 'c> {
             }
             Step::OpenSubstitute { names_at } => self.open_substitute(names_at),
             Step::CloseSubstitute { names_at } => self.close_substitute(names_at),
-            Step::OpenGroup(group) => self.open(group_element(group)),
-            Step::OpenMacro(text) => self.open(text_element(text)),
+            Step::OpenGroup(group) => self.open(group_element(group), None),
+            Step::OpenMacro(text) => self.open(text_element(text), called_place(text)),
             Step::CloseGroup => self.close_group(),
             Step::Choose { .. } => Ok(()),
             Step::Test { branch, otherwise } => {
@@ -223,10 +240,14 @@ impl<'s, 'c> Walk<'s, 'c> {
         }
     }
 
-    fn open(&mut self, element: Element<'s>) -> Result<(), AllocError> {
+    fn open(&mut self, element: Element<'s>, called: Option<StylePlace>) -> Result<(), AllocError> {
         self.frames.push(Frame {
             used_before: self.used.len(),
             names_before: self.names.len(),
+            bytes_before: self.bytes,
+            delimiter: element.delimiter.len(),
+            is_changed: element.text_case.is_some() || element.strips_periods,
+            called,
             ..Frame::NEW
         })?;
         self.output.open(element)
@@ -280,10 +301,11 @@ impl<'s, 'c> Walk<'s, 'c> {
         let inside = self.scene.program.steps.get(self.here.saturating_add(1));
         let is_names = matches!(inside, Some(Step::Names { .. }));
         if is_names || matches!(self.scene.kind, SceneKind::Key(_)) {
-            self.open(Element {
+            let marked = Element {
                 mark: self.author_mark(),
                 ..around
-            })?;
+            };
+            self.open(marked, None)?;
             return self.output.open(Element::PLAIN);
         }
         let alloc = self.alloc();
@@ -293,10 +315,11 @@ impl<'s, 'c> Walk<'s, 'c> {
             SceneKind::Item => (Some(nobody), Mark::Name(NameVariable::Author, 0)),
             SceneKind::Cite | SceneKind::Key(_) => (self.author_mark(), nobody),
         };
-        self.open(Element {
+        let around = Element {
             mark: outer,
             ..around
-        })?;
+        };
+        self.open(around, None)?;
         self.output.open(marked(inner))
     }
 
@@ -332,7 +355,9 @@ impl<'s, 'c> Walk<'s, 'c> {
             return Ok(());
         }
         for variable in self.used.iter().skip(frame.used_before) {
-            self.suppressed.push(*variable)?;
+            if !self.suppressed.contains(variable) {
+                self.suppressed.push(*variable)?;
+            }
         }
         self.call(true);
         self.next = self.scene.program.end_of(names_at);

@@ -1,13 +1,16 @@
 //! Files are checked: styles, locale files, references, citations and documents.
 use crate::commands::citations_in;
 use crate::documents::document_fault;
-use crate::error::CommandError;
+use crate::error::{CommandError, LIMIT_EXCEEDED};
 use crate::files::{bytes_of, bytes_refused};
 use crate::items::show_item_warnings;
 use crate::json_causes::behind_mark;
 use crate::references::references_in;
-use crate::reports::{refused, show_style_warnings, show_warning, style_refused};
+use crate::reports::{limit_exceeded, refused, show_style_warnings, show_warning, style_refused};
 use cite_command::one_line::OneLine;
+use cite_host::error::AnswerError;
+use cite_host::limits::check_style;
+use cite_limits::budget::USUAL_PART;
 use serde_json::Value;
 use std::alloc::Global;
 use std::io;
@@ -41,6 +44,7 @@ pub(crate) fn check_all(
 ) -> Result<ExitCode, CommandError> {
     let mut is_wrong = false;
     let mut is_unread = false;
+    let mut is_excessive = false;
     for path in paths {
         match check_file(rt, path.as_str()) {
             Ok(()) => {}
@@ -50,6 +54,7 @@ pub(crate) fn check_all(
                 let status = error.status();
                 is_wrong = is_wrong || status == 2;
                 is_unread = is_unread || status == 1;
+                is_excessive = is_excessive || status == LIMIT_EXCEEDED;
                 let _ = eprintln!(rt; "{error}");
             }
         }
@@ -58,6 +63,8 @@ pub(crate) fn check_all(
         ExitCode::from(1)
     } else if is_wrong {
         ExitCode::from(2)
+    } else if is_excessive {
+        ExitCode::from(LIMIT_EXCEEDED)
     } else {
         ExitCode::SUCCESS
     })
@@ -127,9 +134,25 @@ fn check_csl_text(
     match read_file(rt.alloc(), text) {
         Ok((file, warnings)) => {
             show_style_warnings(rt, path, &warnings)?;
+            check_limits(rt.alloc(), path, text, &file)?;
             Ok(show_file(rt, path, &file)?)
         }
         Err(error) => Err(style_refused(rt.alloc(), path, &error)?),
+    }
+}
+
+/// Refuses a style that takes more than it may whatever the items have.
+fn check_limits(alloc: Global, path: &str, text: &str, file: &CslFile) -> Result<(), CommandError> {
+    let CslFile::Style(StyleFile::Independent(style)) = file else {
+        return Ok(());
+    };
+    match check_style(alloc, style, USUAL_PART) {
+        Ok(()) => Ok(()),
+        Err(AnswerError::LimitExceeded(excess)) => {
+            Err(limit_exceeded(alloc, path, text, style, &excess)?)
+        }
+        Err(AnswerError::OutOfMemory) => Err(CommandError::OutOfMemory),
+        Err(error) => Err(refused(alloc, path, &error)?),
     }
 }
 

@@ -6,7 +6,7 @@ use crate::json_causes::{behind_mark, json_refused};
 use crate::locales::locales_of;
 use crate::printing::{Printing, print_bibliography, print_both, print_citations, print_json};
 use crate::references::references_of;
-use crate::reports::{refused, show_warning};
+use crate::reports::{limit_exceeded, refused, show_warning};
 use crate::styles::{FoundStyle, style_of};
 use crate::unknown_ids::check_ids;
 use cite_command::arguments::{Options, OutputFormat};
@@ -17,6 +17,8 @@ use cite_json::fault::CitationsError;
 use cite_json::listing::{citation_of_all, uncited};
 use cite_json::notes::number_notes;
 use cite_json::reading::{ReadCitations, read_citations};
+use cite_limits::budget::USUAL_PART;
+use cite_limits::cost::Cost;
 use cite_locale::chain::LocaleChain;
 use cite_walk::abbreviations::Abbreviations;
 use csl_references::reference::References;
@@ -173,7 +175,7 @@ fn print_in_language<'p>(
     let locale = LocaleChain::new(rt.alloc(), language, &style.locales, &files)?;
     let is_whole = options.format == OutputFormat::Json;
     let lists_items = is_whole || printed != Printed::Citations;
-    let answer = answer_of(rt.alloc(), options, asked, &locale, lists_items)?;
+    let answer = answer_of(rt.alloc(), options, asked, &locale, language, lists_items)?;
     let printing = Printing {
         options,
         style,
@@ -197,22 +199,33 @@ fn answer_of(
     options: &Options,
     asked: AskedDocument<'_>,
     locale: &LocaleChain<'_>,
+    language: &str,
     lists_items: bool,
 ) -> Result<Answer, CommandError> {
     let document = Document {
         style: &asked.found.style,
         locale,
+        language,
         references: asked.references,
         citations: &asked.cited.citations,
         abbreviations: asked.abbreviations,
         lists_items,
+        part: part_of(options),
     };
     match document.answer(alloc) {
         Ok(mut answer) => {
             answer.citations.truncate(asked.cited.count);
             Ok(answer)
         }
-        Err(error) => Err(placed(alloc, options, error)?),
+        Err(error) => Err(placed(alloc, options, asked.found, error)?),
+    }
+}
+
+/// What the style may take for each cite and each item.
+fn part_of(options: &Options) -> Cost {
+    Cost {
+        steps: options.most_steps.unwrap_or(USUAL_PART.steps),
+        bytes: options.most_bytes.unwrap_or(USUAL_PART.bytes),
     }
 }
 
@@ -220,6 +233,7 @@ fn answer_of(
 fn placed(
     alloc: Global,
     options: &Options,
+    found: &FoundStyle,
     error: AnswerError,
 ) -> Result<CommandError, AllocError> {
     match error {
@@ -229,6 +243,10 @@ fn placed(
             refused(alloc, options.citations_path(), &why)
         }
         AnswerError::StyleTooLong => refused(alloc, options.style.as_str(), &error),
+        AnswerError::LimitExceeded(excess) => {
+            let (path, text) = (found.path.as_str(), found.text.as_str());
+            limit_exceeded(alloc, path, text, &found.style, &excess)
+        }
         AnswerError::OutOfMemory => Ok(CommandError::OutOfMemory),
         AnswerError::TooManyItems => Ok(CommandError::Answer(error)),
     }

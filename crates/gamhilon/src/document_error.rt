@@ -20,7 +20,7 @@ pub(crate) enum DocumentError {
 }
 
 impl DocumentError {
-    /// The exit status that tells it.
+    /// Its exit status.
     pub fn status(&self) -> u8 {
         match self {
             DocumentError::MacroRing { .. } => 3,

@@ -1,4 +1,4 @@
-//! Documents of `cite_run` are answered, and told where they are wrong.
+//! Documents of `cite_run` are answered, and their faults reported.
 use crate::document_error::DocumentError;
 use crate::error::CommandError;
 use crate::files::bytes_of;
@@ -123,7 +123,7 @@ pub(crate) fn document_fault(alloc: Global, bytes: &[u8]) -> Result<Option<Strin
     Ok(Some(in_words(alloc, bytes, &fault)?))
 }
 
-/// A fault of these bytes, told as JSON, in the words of faults of references.
+/// A fault of these bytes, which is given as JSON, in the words of faults of references.
 fn in_words(alloc: Global, bytes: &[u8], fault: &Value) -> Result<String, AllocError> {
     if let Some(cause) = json_cause(alloc, bytes)? {
         return Ok(cause);

@@ -26,6 +26,13 @@ pub(crate) enum CommandError {
         place: Option<Place>,
         why: String,
     },
+    /// A style takes more steps, or writes more, than it may, at a place of its file if that is
+    /// known.
+    LimitExceeded {
+        path: String,
+        place: Option<Place>,
+        why: String,
+    },
     /// Cites in a file are of items that aren't there: a line for each.
     UnknownIds {
         path: String,
@@ -43,11 +50,12 @@ pub(crate) enum CommandError {
 }
 
 impl CommandError {
-    /// The exit status that tells it.
+    /// Its exit status.
     pub fn status(&self) -> u8 {
         match self {
             CommandError::Unreadable { .. } | CommandError::Output => 1,
             CommandError::Refused { .. } | CommandError::UnknownIds { .. } => 2,
+            CommandError::LimitExceeded { .. } => LIMIT_EXCEEDED,
             CommandError::Answer(error) => answer_status(error),
             CommandError::Document { why, .. } => why.status(),
             CommandError::OutOfMemory => 5,
@@ -56,9 +64,13 @@ impl CommandError {
     }
 }
 
+/// The exit status of a style that takes more than it may.
+pub(crate) const LIMIT_EXCEEDED: u8 = 10;
+
 fn answer_status(error: &AnswerError) -> u8 {
     match error {
         AnswerError::NoReference { .. } | AnswerError::StyleTooLong => 2,
+        AnswerError::LimitExceeded(_) => LIMIT_EXCEEDED,
         AnswerError::TooManyItems => 4,
         AnswerError::OutOfMemory => 5,
     }
@@ -107,7 +119,8 @@ impl fmt::Display for CommandError {
                 let why = OneLine(why.as_str());
                 write!(f, "{path}: {why}")
             }
-            CommandError::Refused { path, place, why } => {
+            CommandError::Refused { path, place, why }
+            | CommandError::LimitExceeded { path, place, why } => {
                 let path = OneLine(path.as_str());
                 let why = OneLine(why.as_str());
                 write!(f, "{path}:")?;

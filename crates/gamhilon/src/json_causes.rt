@@ -21,7 +21,7 @@ pub(crate) fn behind_mark(bytes: &[u8]) -> &[u8] {
     }
 }
 
-/// What is wrong with a file of JSON of which its reader tells this: at a line and a column, where
+/// What is wrong with a file of JSON, by this report of its reader: at a line and a column, where
 /// it is no UTF-8 or no JSON.
 ///
 /// # Errors
@@ -49,7 +49,7 @@ fn place_of_byte(bytes: &[u8], offset: usize) -> Place {
     TextPlace::at_byte(before, before.len()).place()
 }
 
-/// What is wrong with a text of which its reader tells this.
+/// What is wrong with a text, by this report of its reader.
 fn text_refused<W: fmt::Display>(
     alloc: Global,
     path: &str,
@@ -82,7 +82,7 @@ fn syntax_refused(
 }
 
 /// Why bytes are no JSON, where they begin with a byte order mark or nest too deep: the reader
-/// tells the place alone.
+/// reports the place alone.
 ///
 /// # Errors
 ///
@@ -151,7 +151,7 @@ struct Walk {
 }
 
 impl Walk {
-    /// What stands behind the next byte.
+    /// What follows the next byte.
     fn past(self, byte: u8) -> Walk {
         let walk = Walk {
             column: self.column.saturating_add(1),

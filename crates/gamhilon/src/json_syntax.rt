@@ -84,8 +84,8 @@ impl<'t> TextPlace<'t> {
         TextPlace::at_byte(text, offset.saturating_add(column.saturating_sub(1)))
     }
 
-    /// The place before this one in the text that is wrong already, where a reader tells that behind
-    /// it: a number that is too large, or a bracket behind a colon.
+    /// The earlier place in the text that is wrong already, where a reader reports a later one: a
+    /// number that is too large, or a bracket after a colon.
     pub fn earlier_fault(&self, text: &'t str) -> Option<TextPlace<'t>> {
         let place = self
             .before_bracket(text)
@@ -165,7 +165,7 @@ impl<'t> TextPlace<'t> {
     }
 }
 
-/// What stands behind the last line break.
+/// What follows the last line break.
 fn line_end(text: &str) -> &str {
     match text.rsplit_once('\n') {
         Some((_, line)) => line,

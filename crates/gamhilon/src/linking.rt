@@ -48,6 +48,19 @@ pub(crate) fn with_links(
     Ok(out)
 }
 
+/// The ids of the items of a citation's cites, in their order.
+///
+/// # Errors
+///
+/// Where memory is refused.
+pub(crate) fn targets_of(alloc: Global, citation: &Citation) -> Result<Vec<String>, AllocError> {
+    let mut targets = Vec::new(alloc);
+    for cite in &citation.cites {
+        targets.push(anchor(alloc, cite.id.as_str())?)?;
+    }
+    Ok(targets)
+}
+
 /// Adds pieces to what is open innermost.
 fn push_innermost(
     out: &mut Pieces,

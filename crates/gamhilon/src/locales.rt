@@ -11,16 +11,16 @@ use style_file::fallback::{LocaleSource, is_same_language, lookup_order};
 use style_file::locale::LocaleFile;
 use style_reader::file::read_locale;
 
-/// Where locale files are, where no folder is told.
+/// Where locale files are by default.
 const LOCALES: &str = "/usr/share/citation-style-language/locales";
 
 /// The language whose words are built in.
 const BUILT_IN: &str = "en-US";
 
 /// The locale files in which words of a language are looked for (CSL 1.0.2, "Locale Fallback"). A
-/// file that isn't there is left out, and so is one that can't be read, of which a warning says so, as
-/// where none of the language is left; in place of that of American English are the words that are
-/// built in.
+/// file that isn't there is left out, and so is one that can't be read. A warning reports the
+/// latter, and a language without any file. The words that are built in are those of American
+/// English.
 ///
 /// # Errors
 ///

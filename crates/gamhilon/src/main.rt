@@ -1,6 +1,6 @@
 //! `gamhilon` writes citations and bibliographies in styles of CSL 1.0.2, and answers documents.
 //!
-//! Where there is no answer, standard error gets one line that says why, and the exit status tells
+//! Where there is no answer, standard error gets one line that says why, and the exit status says
 //! it too (`CommandError::status`). What is odd in a file that is read gets a line there as well.
 #![tactic(auto)]
 

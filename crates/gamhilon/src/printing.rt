@@ -1,18 +1,18 @@
 //! Answers are printed.
 use crate::error::CommandError;
-use crate::linking::with_links;
+use crate::linking::{targets_of, with_links};
 use crate::page::{Page, anchor, begin_list};
 use cite_answer::printing::print_answer;
 use cite_command::arguments::{Options, OutputFormat};
 use cite_host::answer::{Answer, ListedItem};
 use cite_host::cites::Citation;
-use cite_pieces::html::html;
 use cite_pieces::pieces::Pieces;
-use cite_pieces::plain::plain_text;
 use csl_texts::quotes::QuoteMarks;
 use std::alloc::{AllocError, Global};
 use style_file::sections::BibliographyOptions;
 use style_file::style::CslStyle;
+use write_forms::forms::{Form, written};
+use write_forms::items::{written_block, written_item};
 
 /// What is to be printed of an answer, and how.
 #[derive(Clone, Copy)]
@@ -35,6 +35,16 @@ impl<'p> Printing<'p> {
             Some(Page { language, title })
         } else {
             None
+        }
+    }
+
+    /// The form of texts: that of lines, where the format has no texts.
+    fn form(&self) -> Form {
+        match self.options.format {
+            OutputFormat::Html => Form::Html,
+            OutputFormat::Markdown => Form::Markdown,
+            OutputFormat::Latex => Form::Latex,
+            OutputFormat::Text | OutputFormat::Json => Form::Text,
         }
     }
 }
@@ -65,8 +75,8 @@ pub(crate) fn print_citations(
     page.end(rt)
 }
 
-/// Prints the bibliography of an answer, each item on a line. Where its style has none, standard
-/// error says so.
+/// Prints the bibliography of an answer, each item on a line; as Markdown and LaTeX, each as a
+/// paragraph. Where its style has none, standard error says so.
 ///
 /// # Errors
 ///
@@ -80,7 +90,7 @@ pub(crate) fn print_bibliography(
         return Ok(());
     };
     let Some(page) = printing.page("References") else {
-        return print_items(rt, printing, list.items);
+        return print_items(rt, printing, list);
     };
     page.begin(rt)?;
     print_list(rt, list, printing.marks)?;
@@ -88,7 +98,7 @@ pub(crate) fn print_bibliography(
 }
 
 /// Prints the citations of an answer and, behind an empty line, its bibliography; as HTML, each in
-/// a section.
+/// a section; as Markdown and LaTeX, each citation as a paragraph, too.
 ///
 /// # Errors
 ///
@@ -111,21 +121,27 @@ pub(crate) fn print_both(
     page.end(rt)
 }
 
-/// Prints texts of citations, and behind an empty line those of a list.
+/// Prints texts of citations, and behind an empty line those of a list. An empty line follows each
+/// citation that is a paragraph.
 fn print_texts(
     rt: &(impl Print + AllocGlobal),
     printing: &Printing<'_>,
     texts: &[String],
     list: Option<List<'_>>,
 ) -> Result<(), CommandError> {
-    print_lines(rt, texts)?;
-    match list {
-        Some(list) => {
-            println!(rt; "")?;
-            print_items(rt, printing, list.items)
-        }
-        None => Ok(()),
+    let are_paragraphs = has_paragraphs(printing.form());
+    if are_paragraphs {
+        print_apart(rt, texts)?;
+    } else {
+        print_lines(rt, texts)?;
     }
+    let Some(list) = list else {
+        return Ok(());
+    };
+    if !are_paragraphs {
+        println!(rt; "")?;
+    }
+    print_items(rt, printing, list)
 }
 
 /// Prints a section of citations, and one of a list.
@@ -168,14 +184,17 @@ fn citation_text(
     place: usize,
     citation: &Pieces,
 ) -> Result<String, AllocError> {
-    let format = printing.options.format;
-    if printing.options.links_citations && format == OutputFormat::Html {
-        if let Some(asked) = printing.citations.get(place) {
-            let citation = with_links(alloc, citation, asked)?;
-            return shown(alloc, &citation, format, printing.marks);
-        }
+    let form = printing.form();
+    let asked = match printing.citations.get(place) {
+        Some(asked) if printing.options.links_citations => asked,
+        _ => return written(alloc, form, citation, &[], printing.marks),
+    };
+    if form == Form::Html {
+        let citation = with_links(alloc, citation, asked)?;
+        return written(alloc, form, &citation, &[], printing.marks);
     }
-    shown(alloc, citation, format, printing.marks)
+    let targets = targets_of(alloc, asked)?;
+    written(alloc, form, citation, &targets, printing.marks)
 }
 
 /// The bibliography of an answer. Where its style has none, standard error says so.
@@ -195,6 +214,14 @@ fn list_of<'p>(rt: &impl Eprint, printing: &Printing<'p>, answer: &'p Answer) ->
 fn print_paragraphs(rt: &impl Print, texts: &[String]) -> Result<(), CommandError> {
     for text in texts {
         println!(rt; "<p class=\"citation\">{}</p>", text.as_str())?;
+    }
+    Ok(())
+}
+
+/// Prints texts with an empty line behind each.
+fn print_apart(rt: &impl Print, texts: &[String]) -> Result<(), CommandError> {
+    for text in texts {
+        println!(rt; "{}\n", text.as_str())?;
     }
     Ok(())
 }
@@ -227,15 +254,43 @@ pub(crate) fn print_json(
     Ok(println!(rt; "{}", text.as_str())?)
 }
 
-/// Prints the texts of items, each on a line.
+/// Whether citations and items are paragraphs in a form.
+fn has_paragraphs(form: Form) -> bool {
+    matches!(form, Form::Markdown | Form::Latex)
+}
+
+/// Prints items, each on a line or as a paragraph.
 fn print_items(
     rt: &(impl Print + AllocGlobal),
     printing: &Printing<'_>,
-    items: &[ListedItem],
+    list: List<'_>,
 ) -> Result<(), CommandError> {
-    for item in items {
-        let text = item_text(rt.alloc(), item, printing.options.format, printing.marks)?;
+    let form = printing.form();
+    if has_paragraphs(form) {
+        return print_blocks(rt, form, list, printing.marks);
+    }
+    for item in list.items {
+        let text = item_text(rt.alloc(), form, item, printing.marks)?;
         println!(rt; "{}", text.as_str())?;
+    }
+    Ok(())
+}
+
+/// Prints items as paragraphs, with an empty line between two; in LaTeX one ends the last, too.
+fn print_blocks(
+    rt: &(impl Print + AllocGlobal),
+    form: Form,
+    list: List<'_>,
+    marks: QuoteMarks<'_>,
+) -> Result<(), CommandError> {
+    let mut before = "";
+    for item in list.items {
+        let block = item_block(rt.alloc(), form, list, item, marks)?;
+        println!(rt; "{before}{}", block.as_str())?;
+        before = "\n";
+    }
+    if form == Form::Latex {
+        print!(rt; "{before}")?;
     }
     Ok(())
 }
@@ -248,53 +303,32 @@ fn print_list(
 ) -> Result<(), CommandError> {
     begin_list(rt, list.options)?;
     for item in list.items {
-        let anchor = anchor(rt.alloc(), item.id.as_str())?;
-        let text = item_text(rt.alloc(), item, OutputFormat::Html, marks)?;
-        let (anchor, text) = (anchor.as_str(), text.as_str());
-        println!(rt; "<div id=\"{anchor}\" class=\"csl-entry\">{text}</div>")?;
+        let block = item_block(rt.alloc(), Form::Html, list, item, marks)?;
+        println!(rt; "{}", block.as_str())?;
     }
     Ok(println!(rt; "</div>")?)
+}
+
+/// An item as a block, with the target of its cites.
+fn item_block(
+    alloc: Global,
+    form: Form,
+    list: List<'_>,
+    item: &ListedItem,
+    marks: QuoteMarks<'_>,
+) -> Result<String, AllocError> {
+    let target = anchor(alloc, item.id.as_str())?;
+    let text = item_text(alloc, form, item, marks)?;
+    let is_hanging = list.options.hanging_indent;
+    written_block(alloc, form, target.as_str(), text.as_str(), is_hanging)
 }
 
 /// An item, with its first field in front.
 fn item_text(
     alloc: Global,
+    form: Form,
     item: &ListedItem,
-    format: OutputFormat,
     marks: QuoteMarks<'_>,
 ) -> Result<String, AllocError> {
-    let content = shown(alloc, &item.content, format, marks)?;
-    let Some(field) = &item.first_field else {
-        return Ok(content);
-    };
-    let field = shown(alloc, field, format, marks)?;
-    let field = field.as_str();
-    let content = content.as_str();
-    match format {
-        OutputFormat::Html if content.is_empty() => {
-            format!(in alloc; "<div class=\"csl-left-margin\">{field}</div>")
-        }
-        OutputFormat::Html => format!(in alloc;
-            "<div class=\"csl-left-margin\">{field}</div>\
-             <div class=\"csl-right-inline\">{content}</div>"
-        ),
-        _ if content.is_empty() => String::from_str(alloc, field.trim_end()),
-        _ => {
-            let field = field.trim_end();
-            format!(in alloc; "{field} {content}")
-        }
-    }
-}
-
-/// A stream in a format.
-fn shown(
-    alloc: Global,
-    pieces: &Pieces,
-    format: OutputFormat,
-    marks: QuoteMarks<'_>,
-) -> Result<String, AllocError> {
-    match format {
-        OutputFormat::Html => html(alloc, pieces, marks),
-        _ => plain_text(alloc, pieces, marks),
-    }
+    written_item(alloc, form, &item.first_field, &item.content, marks)
 }

@@ -2,10 +2,13 @@
 use crate::document_error::DocumentError;
 use crate::error::CommandError;
 use cite_command::one_line::OneLine;
+use cite_limits::error::Excess;
+use cite_limits::places::place_in;
 use std::alloc::{AllocError, Global};
 use std::fmt;
 use style_faults::error::StyleError;
 use style_faults::warning::Warning;
+use style_file::style::CslStyle;
 use xml_reader::error::Place;
 
 /// What is wrong with a file, where that has no line.
@@ -32,6 +35,21 @@ pub(crate) fn refused_at<W: fmt::Display>(
         path: String::from_str(alloc, path)?,
         place: Some(place),
         why: format!(in alloc; "{why}")?,
+    })
+}
+
+/// What the style in a file exceeds; this is the text of the file.
+pub(crate) fn limit_exceeded(
+    alloc: Global,
+    path: &str,
+    text: &str,
+    style: &CslStyle,
+    excess: &Excess,
+) -> Result<CommandError, AllocError> {
+    Ok(CommandError::LimitExceeded {
+        path: String::from_str(alloc, path)?,
+        place: place_in(alloc, text, style, excess.place)?,
+        why: format!(in alloc; "{excess}")?,
     })
 }
 

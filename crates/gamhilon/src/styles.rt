@@ -12,10 +12,10 @@ use std::rt::Files;
 use style_file::style::{CslStyle, DependentStyle, StyleFile};
 use style_reader::file::read_style;
 
-/// Where styles are, where no folder is told.
+/// Where styles are by default.
 const STYLES: &str = "/usr/share/citation-style-language/styles";
 
-/// The language of a document where nothing tells one.
+/// The language of a document that names none.
 const LANGUAGE: &str = "en-US";
 
 /// A style, and the language that a style which depends on it asks for.
@@ -23,6 +23,17 @@ const LANGUAGE: &str = "en-US";
 pub(crate) struct FoundStyle {
     pub style: CslStyle,
     pub language: Option<String>,
+    /// Where its file is, or the name of one that is built in.
+    pub path: String,
+    /// The text of its file.
+    pub text: String,
+}
+
+/// What is in a style file, and its text.
+#[derive(Drop)]
+struct ReadStyle {
+    file: StyleFile,
+    text: String,
 }
 
 impl FoundStyle {
@@ -42,8 +53,8 @@ impl FoundStyle {
 }
 
 /// The style of a command, with that on which it depends in its place. What is odd in it is
-/// printed. A style that is built in goes before one of its name in the folder where that isn't
-/// told, and behind it where it is.
+/// printed. A style that is built in goes before one of its name in the default folder, and after
+/// it in a folder that the command line names.
 ///
 /// # Errors
 ///
@@ -62,18 +73,29 @@ pub(crate) fn style_of(
         }
     }
     match style_at(rt, path.as_str()) {
-        Ok(StyleFile::Independent(style)) => Ok(FoundStyle {
+        Ok(
+            ReadStyle {
+                file: StyleFile::Independent(style),
+                text,
+            },
+        ) => Ok(FoundStyle {
             style,
             language: None,
+            path,
+            text,
         }),
-        Ok(StyleFile::Dependent(dependent)) => parent_of(rt, folder, path.as_str(), dependent),
+        Ok(
+            ReadStyle {
+                file: StyleFile::Dependent(dependent),
+                ..
+            },
+        ) => parent_of(rt, folder, path.as_str(), dependent),
         Err(CommandError::Unreadable { path, why }) => Err(no_style(rt, folder, name, path, why)?),
         Err(error) => Err(error),
     }
 }
 
-/// The error of a style that can't be read, with a guess at which one was meant where it was told
-/// by a name.
+/// The error of a style that can't be read, with a guess at which one a name meant.
 fn no_style<R: Files + AllocGlobal + Clone + Drop>(
     rt: &R,
     folder: &str,
@@ -96,12 +118,12 @@ fn no_style<R: Files + AllocGlobal + Clone + Drop>(
     Ok(CommandError::Unreadable { path, why })
 }
 
-/// Whether a style is told by its path.
+/// Whether this is the path of a style.
 fn is_path(style: &str) -> bool {
     style.ends_with(".csl") || style.contains('/') || style == "-"
 }
 
-/// The style of this name that is built in, of which this is the file.
+/// The style of this name that is built in, with its file.
 fn packaged(
     rt: &(impl Eprint + AllocGlobal),
     name: &str,
@@ -111,6 +133,8 @@ fn packaged(
         StyleFile::Independent(style) => Ok(FoundStyle {
             style,
             language: None,
+            path: String::from_str(rt.alloc(), name)?,
+            text: String::from_str(rt.alloc(), text)?,
         }),
         StyleFile::Dependent(_) => {
             let why = "it depends on another style";
@@ -119,7 +143,7 @@ fn packaged(
     }
 }
 
-/// Where a style is that is told by its name or its path.
+/// Where a style is, by its name or its path.
 fn style_path(
     rt: &(impl Files + AllocGlobal),
     folder: &str,
@@ -144,9 +168,12 @@ fn style_path(
 fn style_at(
     rt: &(impl Files + Input + Eprint + AllocGlobal),
     path: &str,
-) -> Result<StyleFile, CommandError> {
+) -> Result<ReadStyle, CommandError> {
     let text = text_of(rt, path)?;
-    style_in(rt, path, text.as_str())
+    Ok(ReadStyle {
+        file: style_in(rt, path, text.as_str())?,
+        text,
+    })
 }
 
 /// The style in the text of a file. What is odd in it is printed.
@@ -179,11 +206,23 @@ fn parent_of(
     let name = last_part(parent.as_str());
     let parent = format!(in rt.alloc(); "{folder}/{name}.csl")?;
     match style_at(rt, parent.as_str()) {
-        Ok(StyleFile::Independent(style)) => Ok(FoundStyle {
+        Ok(
+            ReadStyle {
+                file: StyleFile::Independent(style),
+                text,
+            },
+        ) => Ok(FoundStyle {
             style,
             language: default_locale,
+            path: parent,
+            text,
         }),
-        Ok(StyleFile::Dependent(_)) => {
+        Ok(
+            ReadStyle {
+                file: StyleFile::Dependent(_),
+                ..
+            },
+        ) => {
             let why = "it depends on a style itself";
             Err(refused(rt.alloc(), parent.as_str(), &why)?)
         }
@@ -196,7 +235,7 @@ fn parent_of(
     }
 }
 
-/// What stands behind the last slash of a link.
+/// What follows the last slash of a link.
 fn last_part(link: &str) -> &str {
     match link.rsplit_once('/') {
         Some((_, name)) => name,

@@ -26,6 +26,7 @@ module _ (code : ℕ) (before after : List ℕ) (needed : ℕ) where
 
   refused : (e : CallError) → code ≡ status e → after ≡ before → needed ≡ 0 → HandsText code before after needed
   refused (errors.Fault fault) s same none = record { answered = λ c. absurd (omega arith); too_small = λ c. absurd (omega arith); kept = λ c. same; nothing_needed = λ c d. none }
+  refused (errors.LimitExceeded remark) s same none = record { answered = λ c. absurd (omega arith); too_small = λ c. absurd (omega arith); kept = λ c. same; nothing_needed = λ c d. none }
   refused errors.TooManyItems s same none = record { answered = λ c. absurd (omega arith); too_small = λ c. absurd (omega arith); kept = λ c. same; nothing_needed = λ c d. none }
   refused errors.OutOfMemory s same none = record { answered = λ c. absurd (omega arith); too_small = λ c. absurd (omega arith); kept = λ c. same; nothing_needed = λ c d. none }
 
@@ -41,10 +42,11 @@ module _ (code : ℕ) (before after : List ℕ) (needed : ℕ) where
 
   cite_placed : (code ≡ 0) ⊎ (code ≡ 6) → IsCiteStatus code
   cite_placed (inl z) = inl z
-  cite_placed (inr z) = inr (inr (inr (inr z)))
+  cite_placed (inr z) = inr (inr (inr (inr (inl z))))
 
   cite_refused : (e : CallError) → code ≡ status e → IsCiteStatus code
   cite_refused (errors.Fault fault) s = inr (inl s)
+  cite_refused (errors.LimitExceeded remark) s = inr (inr (inr (inr (inr s))))
   cite_refused errors.TooManyItems s = inr (inr (inl s))
   cite_refused errors.OutOfMemory s = inr (inr (inr (inl s)))
 

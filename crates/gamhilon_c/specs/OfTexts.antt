@@ -17,7 +17,7 @@ pub record HandsText (code : ℕ) (before after : List ℕ) (needed : ℕ) : Typ
 -- the statuses of a call for citations and a bibliography
 abbrev pub IsCiteStatus : ℕ → Type 0
 IsCiteStatus code =
-    (code ≡ 0) ⊎ (code ≡ 2) ⊎ (code ≡ 4) ⊎ (code ≡ 5) ⊎ (code ≡ 6)
+    (code ≡ 0) ⊎ (code ≡ 2) ⊎ (code ≡ 4) ⊎ (code ≡ 5) ⊎ (code ≡ 6) ⊎ (code ≡ 10)
 
 -- those of a call for what is wrong and odd
 abbrev pub IsFaultStatus : ℕ → Type 0

@@ -10,7 +10,7 @@ pub(crate) const ANSWERED: u32 = 0;
 /// The text is longer than the buffer.
 const BUFFER_TOO_SMALL: u32 = 6;
 
-/// Puts the text at the beginning of the buffer, if the buffer is as long, and tells its length.
+/// Puts the text at the beginning of the buffer, if the buffer is as long, and gives its length.
 pub(crate) fn place(text: &[u8], buffer: &mut [u8], needed: &mut usize) -> u32
     ensures { PlacesText text.now result buffer.old buffer.new needed.new }
 {
@@ -23,7 +23,7 @@ pub(crate) fn place(text: &[u8], buffer: &mut [u8], needed: &mut usize) -> u32
     ANSWERED
 }
 
-/// Puts the text into the buffer, if there is one and the buffer is as long, and tells its length.
+/// Puts the text into the buffer, if there is one and the buffer is as long, and gives its length.
 pub(crate) fn hand_out(
     text: &Result<String, RunError>,
     buffer: &mut [u8],

@@ -32,7 +32,7 @@ use host_document::driving::drive_bytes;
 use host_document::faults::print_driven_fault_bytes;
 use std::alloc::Global;
 
-/// Puts what the document prints into the buffer, and tells how many bytes that takes. Gives the
+/// Puts what the document prints into the buffer, and reports how many bytes that takes. Gives the
 /// status.
 #[unsafe(no_mangle)]
 pub extern "C" fn gamhilon_render_text(
@@ -47,8 +47,8 @@ pub extern "C" fn gamhilon_render_text(
     hand_out(&text, buffer, needed)
 }
 
-/// Puts the answer to the document, as JSON, into the buffer, and tells how many bytes that takes.
-/// Gives the status.
+/// Puts the answer to the document, as JSON, into the buffer, and reports how many bytes that
+/// takes. Gives the status.
 #[unsafe(no_mangle)]
 pub extern "C" fn gamhilon_render_json(
     alloc: Global,
@@ -62,7 +62,7 @@ pub extern "C" fn gamhilon_render_json(
     hand_out(&text, buffer, needed)
 }
 
-/// Puts the first fault of the document, as JSON, into the buffer, and tells how many bytes that
+/// Puts the first fault of the document, as JSON, into the buffer, and reports how many bytes that
 /// takes: none where the document has no fault. Gives the status.
 #[unsafe(no_mangle)]
 pub extern "C" fn gamhilon_find_fault(
@@ -78,7 +78,7 @@ pub extern "C" fn gamhilon_find_fault(
     hand_out(&text, buffer, needed)
 }
 
-/// Tells whether each layout of each style of the document is within the limits. Gives the status.
+/// Checks that each layout of each style of the document is within the limits. Gives the status.
 #[unsafe(no_mangle)]
 pub extern "C" fn gamhilon_check_limits(
     alloc: Global,
@@ -105,8 +105,9 @@ pub extern "C" fn gamhilon_find_ring(alloc: Global, document: &[u8], ring: &mut 
     hand_out_ring(&answer, ring)
 }
 
-/// Puts what comes of the driven document, as JSON, into the buffer, and tells how many bytes that
-/// takes: the answer with what its host has written, or what is missing of that. Gives the status.
+/// Puts what comes of the driven document, as JSON, into the buffer, and reports how many bytes
+/// that takes: the answer with what its host has written, or what is missing of that. Gives the
+/// status.
 #[unsafe(no_mangle)]
 pub extern "C" fn gamhilon_drive(
     alloc: Global,
@@ -120,8 +121,8 @@ pub extern "C" fn gamhilon_drive(
     hand_out(&text, buffer, needed)
 }
 
-/// Puts the first fault of the driven document, as JSON, into the buffer, and tells how many bytes
-/// that takes: none where it has no fault. Gives the status.
+/// Puts the first fault of the driven document, as JSON, into the buffer, and reports how many
+/// bytes that takes: none where it has no fault. Gives the status.
 #[unsafe(no_mangle)]
 pub extern "C" fn gamhilon_find_driven_fault(
     alloc: Global,
@@ -137,8 +138,8 @@ pub extern "C" fn gamhilon_find_driven_fault(
     hand_out(&text, buffer, needed)
 }
 
-/// Puts the citations and the bibliography of these texts, as JSON, into the buffer, and tells how
-/// many bytes that takes. Gives the status.
+/// Puts the citations and the bibliography of these texts, as JSON, into the buffer, and reports
+/// how many bytes that takes. Gives the status.
 #[unsafe(no_mangle)]
 pub extern "C" fn gamhilon_cite(
     alloc: Global,
@@ -164,7 +165,7 @@ pub extern "C" fn gamhilon_cite(
     hand_out_of_texts(&text, buffer, needed)
 }
 
-/// Puts what is wrong and odd in these texts, as JSON, into the buffer, and tells how many bytes
+/// Puts what is wrong and odd in these texts, as JSON, into the buffer, and reports how many bytes
 /// that takes. Gives the status.
 #[unsafe(no_mangle)]
 pub extern "C" fn gamhilon_find_cite_fault(

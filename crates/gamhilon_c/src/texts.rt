@@ -5,7 +5,7 @@ use crate::buffer::place;
 use cite_call::error::CallError;
 
 /// Puts what comes of texts into the buffer, if there is something and the buffer is as long, and
-/// tells its length.
+/// gives its length.
 pub(crate) fn hand_out_of_texts(
     text: &Result<String, CallError>,
     buffer: &mut [u8],

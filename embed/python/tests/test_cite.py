@@ -74,6 +74,53 @@ def test_abbreviations_are_an_option(made_up_texts):
     assert json.loads(library.texts[0][4]) == {'abbreviations': {'default': {}}}
 
 
+@pytest.mark.parametrize('given, limits', [
+    ({'most_steps': 7}, {'steps': 7}), ({'most_bytes': 0}, {'bytes': 0}),
+    ({'most_steps': 1, 'most_bytes': 2 ** 64 - 1}, {'steps': 1, 'bytes': 2 ** 64 - 1}),
+])
+def test_limits_of_a_style_are_an_option(made_up_texts, given, limits):
+    library = made_up_texts({'warnings': []}, text=b'{"citations":[]}')
+    gamhilon.cite('ä', [], [], **given)
+    assert json.loads(library.texts[0][4]) == {'limits': limits}
+
+
+@pytest.mark.parametrize('given', [{'most_steps': -1}, {'most_bytes': 2 ** 64}])
+def test_limits_of_a_style_are_numbers_of_64_bits(made_up_texts, given):
+    made_up_texts({'warnings': []}, text=b'{"citations":[]}')
+    with pytest.raises(gamhilon.LimitsRefused):
+        gamhilon.cite('ä', [], [], **given)
+
+
+def test_a_style_that_takes_too_much_has_its_place(made_up_texts):
+    fault = {'file': 'style', 'line': 3, 'column': 7, 'message': 'more than 10000 steps'}
+    made_up_texts({'fault': fault, 'warnings': []}, status=10)
+    with pytest.raises(gamhilon.StyleLimitExceeded,
+                       match='^style:3:7: more than 10000 steps$') as refusal:
+        gamhilon.cite(STYLE, ITEMS, [])
+    error = pickle.loads(pickle.dumps(refusal.value))
+    assert error.fault == gamhilon.TextFault(**fault) and error.status == 10
+    assert isinstance(error, (gamhilon.LimitExceeded, ValueError))
+
+
+def test_a_style_that_takes_too_much_through_items_has_no_place(made_up_texts):
+    made_up_texts({'warnings': []}, status=10)
+    with pytest.raises(gamhilon.StyleLimitExceeded, match='^the style takes more steps or') as it:
+        gamhilon.cite(STYLE, ITEMS, [])
+    assert it.value.fault is None
+
+
+def test_a_style_that_takes_too_much_is_told_by_its_file(made_up_texts, tmp_path):
+    fault = {'file': 'style', 'line': 3, 'column': 7, 'message': 'more than 10000 steps'}
+    made_up_texts({'fault': fault, 'warnings': []}, status=10)
+    path = tmp_path / 'mine.csl'
+    path.write_text(STYLE)
+    told = 'mine.csl:3:7: more than 10000 steps$'
+    with pytest.raises(gamhilon.StyleLimitExceeded, match=told):
+        gamhilon.csl.render(str(path), ITEMS)
+    with pytest.raises(gamhilon.StyleLimitExceeded, match=told):
+        gamhilon.csl.check_style(str(path))
+
+
 def test_without_options_there_are_none(made_up_texts):
     library = made_up_texts({'warnings': []}, text=b'{"citations":[]}')
     assert gamhilon.cite(b'\xff', b'[]', []).warnings == []
@@ -122,6 +169,18 @@ def test_citations_and_items(cites):
         ('a', 'Ärmel'), ('b', 'B')]
     assert answer.bibliography.hanging_indent and answer.citations[0].note_number is None
     assert list(map(str, answer.warnings)) == ['citations: /0/0/size: unknown key, left out']
+
+
+def test_limits_of_a_style(cites):
+    macro = '<macro name="m"><text variable="title" prefix="%s"/></macro>\n' % ('x' * 200001)
+    layout = STYLE.replace('<text variable="title"/>', '<text macro="m"/>')
+    long = layout.replace('<citation>', macro + '<citation>')
+    with pytest.raises(gamhilon.StyleLimitExceeded, match='^style:3:1: the style writes more than'):
+        gamhilon.cite(long, ITEMS, [[{'id': 'a'}]])
+    with pytest.raises(gamhilon.StyleLimitExceeded, match='^style:3:1: .* more than 0 steps$'):
+        gamhilon.cite(STYLE, ITEMS, [[{'id': 'a'}]], most_steps=0)
+    answer = gamhilon.cite(long, ITEMS, [[{'id': 'b'}]], most_bytes=100001)
+    assert gamhilon.plain(answer.citations[0].content) == '(%sB)' % ('x' * 200001)
 
 
 def test_a_language_and_its_locale(cites):

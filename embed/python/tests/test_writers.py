@@ -252,6 +252,19 @@ def test_latex_writes_no_ligatures():
     assert gamhilon.to_latex([node("''")]) == "'{}'"
 
 
+def test_an_item_may_begin_with_an_address():
+    item = gamhilon.Item('k', [node('http://example.org/a')])
+    written = gamhilon.bibliography_to_latex(gamhilon.Bibliography([item], False, 1, 1))
+    assert written == (r'\noindent \hypertarget{ref-k}{}\href{http://example.org/a}{http://\allowbreak{}'
+                       'example.\\allowbreak{}org/\\allowbreak{}a}\\par\n\n')
+
+
+def test_letters_behind_formatted_white_space_are_not_formatted():
+    item = gamhilon.Item('k', [node(' ', 'italic'), node('a')])
+    bibliography = gamhilon.Bibliography([item], False, 1, 1)
+    assert '<i>' not in gamhilon.bibliography_to_html(bibliography)
+
+
 def test_latex_escapes_addresses():
     tree = [node('a_b', url='https://example.org/a_b?c=1&d=%20#e~f')]
     assert gamhilon.to_latex(tree) == r'\href{https://example.org/a_b?c=1\&d=\%20\#e\%7Ef}{a\_b}'

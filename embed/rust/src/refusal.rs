@@ -11,6 +11,7 @@ pub(crate) mod status {
     pub(crate) const BUFFER_TOO_SMALL: u32 = 6;
     pub(crate) const TOO_DEEP: u32 = 7;
     pub(crate) const TOO_MANY_ELEMENTS: u32 = 8;
+    pub(crate) const LIMIT_EXCEEDED: u32 = 10;
 }
 
 /// Where a document is wrong: its first fault.
@@ -52,6 +53,8 @@ pub enum Refusal {
     TooDeep,
     /// A layout has more elements than the limit.
     TooManyElements,
+    /// A style file takes more steps, or writes more, than its limits let it.
+    LimitExceeded,
     /// The library ended the call with a status that this crate doesn't know.
     Unknown(u32),
 }
@@ -66,6 +69,7 @@ impl Refusal {
             Refusal::OutOfMemory => status::OUT_OF_MEMORY,
             Refusal::TooDeep => status::TOO_DEEP,
             Refusal::TooManyElements => status::TOO_MANY_ELEMENTS,
+            Refusal::LimitExceeded => status::LIMIT_EXCEEDED,
             Refusal::Unknown(status) => *status,
         }
     }
@@ -77,6 +81,7 @@ impl Refusal {
             status::OUT_OF_MEMORY => Refusal::OutOfMemory,
             status::TOO_DEEP => Refusal::TooDeep,
             status::TOO_MANY_ELEMENTS => Refusal::TooManyElements,
+            status::LIMIT_EXCEEDED => Refusal::LimitExceeded,
             _ => Refusal::Unknown(status),
         }
     }
@@ -117,6 +122,9 @@ impl fmt::Display for Refusal {
             Refusal::OutOfMemory => f.write_str("memory was refused"),
             Refusal::TooDeep => f.write_str("the elements of a layout nest too deep"),
             Refusal::TooManyElements => f.write_str("a layout has too many elements"),
+            Refusal::LimitExceeded => {
+                f.write_str("the style takes more steps or writes more than it may")
+            }
             Refusal::Unknown(status) => {
                 write!(f, "the library ended with status {status}, which this crate does not know")
             }
@@ -162,11 +170,15 @@ mod tests {
 
     #[test]
     fn what_exceeds_limits_has_its_status() {
-        for (status, refusal) in [(7, Refusal::TooDeep), (8, Refusal::TooManyElements)] {
+        for (status, refusal) in
+            [(7, Refusal::TooDeep), (8, Refusal::TooManyElements), (10, Refusal::LimitExceeded)]
+        {
             assert_eq!(Refusal::of(status), refusal);
             assert_eq!(refusal.status(), status);
         }
         assert_eq!(Refusal::TooDeep.to_string(), "the elements of a layout nest too deep");
         assert_eq!(Refusal::TooManyElements.to_string(), "a layout has too many elements");
+        let told = "the style takes more steps or writes more than it may";
+        assert_eq!(Refusal::LimitExceeded.to_string(), told);
     }
 }

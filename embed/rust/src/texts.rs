@@ -65,7 +65,8 @@ pub struct Texts<'t> {
     /// A JSON list of citations, which are lists of cites (docs/WRITER.md).
     pub citations: &'t [u8],
     /// A JSON object: `locale`, a language tag; `nocite`, whether items that aren't cited are
-    /// listed; and `abbreviations`, short forms of texts (docs/STYLE_FILES.md).
+    /// listed; `abbreviations`, short forms of texts (docs/STYLE_FILES.md); `limits`; and `form`
+    /// (docs/WRITER.md).
     pub options: &'t [u8],
 }
 
@@ -114,6 +115,9 @@ pub struct Findings {
 pub enum CiteError {
     /// A text is wrong.
     Text(Box<TextFault>),
+    /// The style takes more steps, or writes more, than it may: the place in it, or none where it
+    /// exceeds its limits only through what the items have.
+    LimitExceeded(Option<Box<TextFault>>),
     /// Another reason: `NumberOverflow`, `OutOfMemory` or `Unknown`.
     Refused(Refusal),
 }
@@ -123,6 +127,7 @@ impl CiteError {
     pub fn status(&self) -> u32 {
         match self {
             CiteError::Text(_) => status::DOCUMENT_REFUSED,
+            CiteError::LimitExceeded(_) => status::LIMIT_EXCEEDED,
             CiteError::Refused(refusal) => refusal.status(),
         }
     }
@@ -148,7 +153,10 @@ impl fmt::Display for TextRemark {
 impl fmt::Display for CiteError {
     fn fmt(&self, f: &mut fmt::Formatter<'_>) -> fmt::Result {
         match self {
-            CiteError::Text(fault) => write!(f, "{}", fault.remark),
+            CiteError::Text(fault) | CiteError::LimitExceeded(Some(fault)) => {
+                write!(f, "{}", fault.remark)
+            }
+            CiteError::LimitExceeded(None) => write!(f, "{}", Refusal::LimitExceeded),
             CiteError::Refused(refusal) => write!(f, "{refusal}"),
         }
     }
@@ -179,6 +187,7 @@ pub fn cite(texts: &Texts<'_>) -> Result<String, CiteError> {
     match filled(gamhilon_cite, texts, needed) {
         Ok(json) => Ok(json),
         Err(status::DOCUMENT_REFUSED) => Err(fault_of(texts)),
+        Err(status::LIMIT_EXCEEDED) => Err(excess_of(texts)),
         Err(ended) => Err(CiteError::Refused(Refusal::of(ended))),
     }
 }
@@ -196,6 +205,14 @@ fn fault_of(texts: &Texts<'_>) -> CiteError {
         Ok(Findings { fault: None, .. }) => {
             CiteError::Refused(Refusal::Unknown(status::DOCUMENT_REFUSED))
         }
+        Err(refusal) => CiteError::Refused(refusal),
+    }
+}
+
+/// The error of texts whose style takes more than it may.
+fn excess_of(texts: &Texts<'_>) -> CiteError {
+    match find_cite_fault(texts) {
+        Ok(Findings { fault, .. }) => CiteError::LimitExceeded(fault.map(Box::new)),
         Err(refusal) => CiteError::Refused(refusal),
     }
 }

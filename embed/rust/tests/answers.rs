@@ -124,3 +124,28 @@ fn a_text_that_is_wrong_has_its_place() {
         other => panic!("{other:?}"),
     }
 }
+
+#[test]
+fn a_style_that_takes_too_much_has_its_place() {
+    let mut style = String::from(concat!(
+        r#"<style xmlns="http://purl.org/net/xbiblio/csl" class="in-text" version="1.0">"#,
+        "<info><title>T</title><id>T</id><updated>2026-01-01T00:00:00+00:00</updated></info>\n",
+        r#"<macro name="m0"><text variable="title"/></macro>"#,
+    ));
+    for depth in 1..18 {
+        let call = format!(r#"<text macro="m{}"/>"#, depth - 1);
+        style += &format!("\n<macro name=\"m{depth}\">{call}{call}</macro>");
+    }
+    style += "\n<citation><layout><text macro=\"m17\"/></layout></citation></style>";
+    let given = gamhilon::Texts { style: style.as_bytes(), ..texts(br#"[[{"id": "doe99"}]]"#) };
+    let error = gamhilon::cite(&given).unwrap_err();
+    assert_eq!(error.status(), 10);
+    match error {
+        gamhilon::CiteError::LimitExceeded(Some(fault)) => {
+            let place = fault.remark.place;
+            assert_eq!(fault.remark.file, "style");
+            assert!(matches!(place, gamhilon::TextPlace::Line { line: 2.., .. }), "{place:?}");
+        }
+        other => panic!("{other:?}"),
+    }
+}

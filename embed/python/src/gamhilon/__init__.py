@@ -37,8 +37,8 @@ from .answer import Answer, Bibliography, Citation, Item, Node, Tree, answer_of,
 from .citation_text import (CitationTextRefused, TextCitation, find_citations,
                             parse_citations)
 from .errors import (DocumentRefused, GamhilonError, LibraryFailed, LibraryMissing, LimitExceeded,
-                     LimitsRefused, MacroRing, NumberOverflow, OutOfMemory, Refused, TextRefused,
-                     TooDeep, TooManyElements)
+                     LimitsRefused, MacroRing, NumberOverflow, OutOfMemory, Refused,
+                     StyleLimitExceeded, TextRefused, TooDeep, TooManyElements)
 from .html_writer import bibliography_to_html, style_sheet, to_html
 from .latex_writer import bibliography_to_latex, to_latex
 from .markdown_writer import bibliography_to_markdown, to_markdown
@@ -48,8 +48,9 @@ __all__ = [
     'Answer', 'Bibliography', 'Citation', 'CitationTextRefused', 'Document', 'DocumentRefused',
     'GamhilonError', 'Item', 'LibraryFailed', 'LibraryMissing', 'LimitExceeded', 'Limits',
     'LimitsRefused', 'MacroRing', 'Missing', 'Node', 'NumberOverflow', 'OutOfMemory', 'Refused',
-    'State', 'Task', 'TextCitation', 'TextFault', 'TextRefused', 'TextWarning', 'TooDeep',
-    'TooManyElements', 'Tree', 'Version', 'Writer', 'Written', '__version__',
+    'State', 'StyleLimitExceeded', 'Task', 'TextCitation', 'TextFault', 'TextRefused',
+    'TextWarning', 'TooDeep', 'TooManyElements', 'Tree', 'Version', 'Writer', 'Written',
+    '__version__',
     'bibliography_to_html', 'bibliography_to_latex', 'bibliography_to_markdown', 'check', 'cite',
     'csl', 'csl_json', 'drive_once', 'find_citations', 'latex_documents', 'markdown_pages',
     'parse_citations', 'plain', 'print_document', 'print_json', 'references', 'render',
@@ -134,7 +135,8 @@ def render(document: Document, *, limits: Optional[Limits] = None) -> Answer:
 
 def cite(style: Union[str, bytes], items: Union[Json, references.References], citations: Json, *,
          locales: Sequence[str] = (), locale: Optional[str] = None, nocite: bool = False,
-         abbreviations: Optional[Mapping[str, Any]] = None) -> Answer:
+         abbreviations: Optional[Mapping[str, Any]] = None, most_steps: Optional[int] = None,
+         most_bytes: Optional[int] = None) -> Answer:
     """Citations and a bibliography by a style file, from texts alone (docs/WRITER.md).
 
     `style` is the text of a style file of CSL 1.0.2, `items` CSL-JSON or what `references.load`
@@ -145,15 +147,19 @@ def cite(style: Union[str, bytes], items: Union[Json, references.References], ci
     `locales` are the texts of locale files, beside that of American English, which is built in;
     `locale` is a language tag, in place of the style's. With `nocite` all items are listed.
     `abbreviations` are short forms of texts, as the JSON of pandoc and Zotero has them.
+    `most_steps` and `most_bytes` are what the style may take for each cite and each item, in place
+    of what no published style comes near (docs/STYLE_FILES.md).
 
         answer = gamhilon.cite(open('apa.csl').read(), items, [[{'id': 'doe99', 'locator': '4'}]])
 
     What is read otherwise than it stands in the texts is in `answer.warnings`. Raises TextRefused,
-    NumberOverflow or OutOfMemory, each a Refused, where there is no answer, and LibraryMissing
-    where there is no library, or one that is older than this call.
+    StyleLimitExceeded, NumberOverflow or OutOfMemory, each a Refused, where there is no answer;
+    LimitsRefused where a limit is no number from 0 on; and LibraryMissing where there is no
+    library, or one that is older than this call.
     """
     given = items.items if isinstance(items, references.References) else items
-    return cite_texts(texts_of(style, given, citations, locales, locale, nocite, abbreviations))
+    return cite_texts(texts_of(style, given, citations, locales, locale, nocite, abbreviations,
+                               most_steps, most_bytes))
 
 
 def drive_once(document: Document) -> Union[Answer, Missing]:

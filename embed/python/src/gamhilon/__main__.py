@@ -34,9 +34,9 @@ examples:
 exit status: 0 done; 1 reading or writing failed; 2 document refused, or a file
 that isn't of its form; 3 its macros call each other in a ring; 4 its citation
 numbers don't fit; 5 out of memory; 7 a layout nests deeper than --depth; 8 a
-layout has more elements than --elements; 11 texts differ (of diff and test); 64
-not a command line; 69 the library is missing, or what reads files of a form;
-130 ended by Ctrl-C"""
+layout has more elements than --elements; 10 a style exceeds --most-steps or
+--most-bytes; 11 texts differ (of diff and test); 64 not a command line; 69 the
+library is missing, or what reads files of a form; 130 ended by Ctrl-C"""
 CITATIONS = """\
 example, with [[{"id": "doe99", "locator": "4"}]] in citations.json:
   gamhilon %s --style apa library.bib citations.json"""
@@ -129,7 +129,18 @@ def _add_cite(commands: Any) -> None:
                           help='short forms, as of the titles of journals, in JSON')
         made.add_argument('--nocite', action='store_true',
                           help='references are listed that no cite is of')
+        _add_style_limits(made)
         _add_forms(made)
+
+
+def _add_style_limits(command: argparse.ArgumentParser) -> None:
+    """What a style may take for each cite and each item."""
+    command.add_argument('--most-steps', type=_limit, metavar='N',
+                         help='how many steps the style may take for each cite and each item '
+                              '(5000)')
+    command.add_argument('--most-bytes', type=_limit, metavar='N',
+                         help='how many bytes the style may write for each cite and each item '
+                              '(100000)')
 
 
 def _add_forms(command: argparse.ArgumentParser) -> None:
@@ -222,7 +233,7 @@ def _asked(words: argparse.Namespace) -> Asked:
     """What a command line of `cite` or `bibliography` asks for."""
     return Asked(words.style, words.styles, words.locale, words.locales, words.abbreviations,
                  words.to, words.standalone, [words.references, *words.more], words.citations,
-                 words.nocite)
+                 words.nocite, words.most_steps, words.most_bytes)
 
 
 def run(words: argparse.Namespace) -> int:

@@ -41,8 +41,9 @@ def _merge_texts(parts: Sequence[Piece]) -> List[Piece]:
         last = found[-1] if found else None
         is_alike = last is not None and _is_plain(last) and _is_plain(piece)
         if last and is_alike and formats(last.node) == formats(piece.node):
+            shown = last if last.node['text'].strip() else piece
             text = last.node['text'] + piece.node['text']
-            found[-1] = last._replace(node={**last.node, 'text': text})
+            found[-1] = shown._replace(node={**shown.node, 'text': text})
         else:
             found.append(piece)
     return found

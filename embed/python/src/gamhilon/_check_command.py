@@ -8,7 +8,7 @@ from typing import List, Sequence
 from . import Limits, _faults, _remarks, check, csl, references
 from ._console import (INPUT_OR_OUTPUT_FAILED, NOT_OF_ITS_FORM, name_of, progress, read,
                        reason_and_status, say, write)
-from .errors import LibraryMissing, Refused
+from .errors import LibraryMissing, Refused, StyleLimitExceeded
 
 _BEFORE = b'\xef\xbb\xbf \t\r\n'
 """What may stand before the first letter that tells what a file is."""
@@ -29,7 +29,8 @@ def refusal(path: str, error: Exception) -> int:
     """Tells why nothing comes of a file, with its name, and gives the exit status."""
     message, status = reason_and_status(error)
     # (the place of a fault in a style begins with its file)
-    say(message if isinstance(error, csl.StyleRefused) else f'{name_of(path)}: {message}')
+    is_placed = isinstance(error, (csl.StyleRefused, StyleLimitExceeded))
+    say(message if is_placed else f'{name_of(path)}: {message}')
     return status
 
 

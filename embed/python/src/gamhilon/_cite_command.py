@@ -28,6 +28,8 @@ class Asked:
     references: Sequence[str]
     citations: Optional[str]
     lists_all: bool
+    most_steps: Optional[int] = None
+    most_bytes: Optional[int] = None
 
     def inputs(self) -> int:
         """How many of the files are standard input."""
@@ -104,7 +106,8 @@ def _rendered(asked: Asked, works: Works) -> Tuple[csl.Rendered, int]:
         with _console.progress(f'citing in {asked.style}'):
             rendered = csl.render(style, list(works.items.values()), citations,
                                   locale=asked.locale, locales=asked.locales,
-                                  abbreviations=asked.abbreviations)
+                                  abbreviations=asked.abbreviations,
+                                  most_steps=asked.most_steps, most_bytes=asked.most_bytes)
     except csl.CitationRefused as error:
         raise _Failed(f'{name_of(str(asked.citations))}: {error}', NOT_OF_ITS_FORM) from error
     except Refused as error:

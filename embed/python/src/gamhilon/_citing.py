@@ -2,13 +2,14 @@
 from __future__ import annotations
 
 import json
-from typing import Any, Dict, List, Mapping, Optional, Sequence, Union
+from typing import Any, Dict, List, Mapping, Optional, Sequence, Tuple, Union
 
 from ._answers_again import AnswerReader
 from ._library import CiteTexts, library
+from ._limits import style_limits
 from .answer import Answer, answer_of
-from .errors import DocumentRefused, OutOfMemory, TextRefused
-from .texts import TextFault, findings_of
+from .errors import DocumentRefused, OutOfMemory, StyleLimitExceeded, TextRefused
+from .texts import TextFault, TextWarning, findings_of
 
 __all__ = ['Json', 'cite_texts', 'texts_of']
 
@@ -18,9 +19,14 @@ Json = Union[List[Any], Dict[str, Any], str, bytes]
 
 def texts_of(style: Union[str, bytes], items: Json, citations: Json, locales: Sequence[str],
              locale: Optional[str], nocite: bool,
-             abbreviations: Optional[Mapping[str, Any]]) -> CiteTexts:
-    """The texts of the call. Raises TextRefused where one can't be written as JSON."""
+             abbreviations: Optional[Mapping[str, Any]], most_steps: Optional[int] = None,
+             most_bytes: Optional[int] = None) -> CiteTexts:
+    """The texts of the call. Raises TextRefused where one can't be written as JSON, and
+    LimitsRefused."""
     options: Dict[str, Any] = {'nocite': True} if nocite else {}
+    limits = style_limits(most_steps, most_bytes)
+    if limits:
+        options['limits'] = limits
     if locale is not None:
         options['locale'] = locale
     if abbreviations is not None:
@@ -39,16 +45,22 @@ def cite_texts(texts: CiteTexts, warns: bool = True,
         text = library().cite(texts)
     except DocumentRefused:
         raise _refusal(texts) from None
+    except StyleLimitExceeded:
+        raise StyleLimitExceeded(_findings(texts)[0]) from None
     if not warns:
         return read(text.decode())
-    _, warnings = findings_of(json.loads(library().find_cite_fault(texts)))
-    return read(text.decode(), warnings)
+    return read(text.decode(), _findings(texts)[1])
 
 
 def _refusal(texts: CiteTexts) -> Exception:
     """What is wrong with these texts."""
-    fault, warnings = findings_of(json.loads(library().find_cite_fault(texts)))
+    fault, warnings = _findings(texts)
     return OutOfMemory('memory was refused') if fault is None else TextRefused(fault, warnings)
+
+
+def _findings(texts: CiteTexts) -> Tuple[Optional[TextFault], List[TextWarning]]:
+    """What is wrong with these texts, if anything is, and what is odd in them."""
+    return findings_of(json.loads(library().find_cite_fault(texts)))
 
 
 def _bytes_of(text: Union[str, bytes]) -> bytes:

@@ -10,7 +10,7 @@ from contextlib import contextmanager
 from typing import Any, Callable, Iterator, List, NoReturn, Tuple, Union
 
 from . import _faults
-from .errors import LimitExceeded, Refused
+from .errors import LimitExceeded, Refused, StyleLimitExceeded
 
 INPUT_OR_OUTPUT_FAILED, NOT_OF_ITS_FORM, INTERRUPTED = 1, 2, 130
 """Exit statuses: where reading or writing fails, where a file isn't of its form, and by Ctrl-C."""
@@ -35,7 +35,7 @@ def say(message: str) -> None:
 
 def reason_and_status(error: Exception) -> Tuple[str, int]:
     """What is said of a file of which nothing comes, and the exit status."""
-    if isinstance(error, LimitExceeded):
+    if isinstance(error, LimitExceeded) and not isinstance(error, StyleLimitExceeded):
         option = '--depth' if error.status == 7 else '--elements'
         return f'{error} ({option} raises the limit)', error.status
     if isinstance(error, Refused):

@@ -13,7 +13,7 @@ from typing import Any, Callable, List, NamedTuple, Optional, Tuple
 from . import _faults
 from ._limits import Limits
 from .errors import (DocumentRefused, LibraryFailed, LibraryMissing, MacroRing, NumberOverflow,
-                     OutOfMemory, TooDeep, TooManyElements)
+                     OutOfMemory, StyleLimitExceeded, TooDeep, TooManyElements)
 
 HERE = os.path.dirname(os.path.abspath(__file__))
 NAME = 'libgamhilon.so'
@@ -146,6 +146,8 @@ class Library:
             return NumberOverflow("the citation numbers don't fit 64 bits")
         if status == OutOfMemory.status:
             return OutOfMemory('memory was refused')
+        if status == StyleLimitExceeded.status:
+            return StyleLimitExceeded()
         return LibraryFailed(f'{NAME} ended a call with status {status}, '
                              'which this package does not know')
 

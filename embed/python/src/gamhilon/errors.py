@@ -7,8 +7,8 @@ from .texts import TextFault, TextWarning
 
 __all__ = [
     'DocumentRefused', 'GamhilonError', 'LibraryFailed', 'LibraryMissing', 'LimitExceeded',
-    'LimitsRefused', 'MacroRing', 'NumberOverflow', 'OutOfMemory', 'Refused', 'TextRefused',
-    'TooDeep', 'TooManyElements',
+    'LimitsRefused', 'MacroRing', 'NumberOverflow', 'OutOfMemory', 'Refused', 'StyleLimitExceeded',
+    'TextRefused', 'TooDeep', 'TooManyElements',
 ]
 
 
@@ -97,7 +97,7 @@ class OutOfMemory(Refused, MemoryError):
 
 
 class LimitExceeded(Refused, ValueError):
-    """A layout of a style isn't within the limits that the caller gave."""
+    """A style isn't within its limits."""
 
 
 class TooDeep(LimitExceeded):
@@ -110,6 +110,25 @@ class TooManyElements(LimitExceeded):
     """A layout has more elements than the limit."""
 
     status = 8
+
+
+class StyleLimitExceeded(LimitExceeded):
+    """A style file takes more steps, or writes more, than it may.
+
+    `fault` is the place in the style: a macro, the citation or the bibliography. It is None where
+    the style exceeds its limits only through what the items have.
+    """
+
+    status = 10
+
+    def __init__(self, fault: Optional[TextFault] = None) -> None:
+        super().__init__(fault)
+        self.fault = fault
+
+    def __str__(self) -> str:
+        if self.fault is None:
+            return 'the style takes more steps or writes more than it may'
+        return str(self.fault)
 
 
 class LimitsRefused(GamhilonError, ValueError):

@@ -79,7 +79,7 @@ def _latex(parts: Sequence[Piece], markup: Escape) -> str:
         display = piece.node.get('display')
         if piece.kind == 'text':
             text = _text(piece.node)
-            out.append('{}' if text[:1] == before and before in "-'," else '')
+            out.append('{}' if text and text[0] == before and before in "-'," else '')
             out.append(text)
             before = text[-1:] or before
         elif piece.kind == 'markup':

@@ -2,14 +2,14 @@
 from __future__ import annotations
 
 import json
-from dataclasses import dataclass
-from typing import Any, Dict, List, Optional, Sequence, Tuple
+from dataclasses import dataclass, replace
+from typing import Any, Dict, List, Mapping, Optional, Sequence, Tuple
 
 from .._answers_again import AnswerReader
 from .._citing import cite_texts
 from .._library import CiteTexts
 from ..answer import Answer
-from ..errors import TextRefused
+from ..errors import StyleLimitExceeded, TextRefused
 from ..texts import TextFault, TextWarning
 from .abbreviations import Abbreviations
 from .cites import Citation, json_of_citations
@@ -42,7 +42,8 @@ class EntryTexts:
 @dataclass(frozen=True)
 class Document:
     """What is rendered: a style, locale files, entries, citations, the language in place of the
-    style's, and abbreviations. `reader` and `texts` are those of documents that are much alike."""
+    style's, abbreviations, and limits in place of the usual ones. `reader` and `texts` are those of
+    documents that are much alike."""
 
     style: Style
     locales: Sequence[LocaleFile]
@@ -50,22 +51,32 @@ class Document:
     citations: Sequence[Citation]
     language: str
     abbreviations: Optional[Abbreviations] = None
+    limits: Optional[Mapping[str, int]] = None
     reader: Optional[AnswerReader] = None
     texts: Optional[EntryTexts] = None
 
     def answer(self, warns: bool = True) -> Answer:
         """The answer, with what is odd unless that isn't asked for. Raises TextRefused where a part
-        of the document is wrong; NumberOverflow or OutOfMemory; and LibraryMissing."""
-        return cite_texts(CiteTexts(
+        of the document is wrong; StyleLimitExceeded, NumberOverflow or OutOfMemory; and
+        LibraryMissing."""
+        try:
+            return cite_texts(self._texts(), warns, self.reader)
+        except StyleLimitExceeded as refusal:
+            raise self._excess(refusal) from None
+
+    def _texts(self) -> CiteTexts:
+        return CiteTexts(
             style=bytes_of(self.style.text), items=(self.texts or EntryTexts()).json(self.entries),
             citations=json_of_citations(self.citations),
             locales=json_of([locale.text for locale in self.locales]),
-            options=json_of(self._options())), warns, self.reader)
+            options=json_of(self._options()))
 
     def _options(self) -> Dict[str, Any]:
         options: Dict[str, Any] = {'locale': self.language}
         if self.abbreviations is not None:
             options['abbreviations'] = self.abbreviations.value
+        if self.limits:
+            options['limits'] = dict(self.limits)
         return options
 
     def warned(self, remark: TextWarning) -> Warned:
@@ -95,6 +106,11 @@ class Document:
         if fault.file == 'options' and self.abbreviations is not None:
             return AbbreviationsRefused(self.abbreviations.file, None, None, _at_part(fault))
         return StyleRefused(self._file(fault.file), fault.line, fault.column, fault.message)
+
+    def _excess(self, refusal: StyleLimitExceeded) -> StyleLimitExceeded:
+        """What the style exceeds, with the name of its file."""
+        fault = refusal.fault
+        return StyleLimitExceeded(fault and replace(fault, file=self._file(fault.file)))
 
     def _file(self, file: str) -> str:
         """How messages name a text of the document."""

@@ -4,9 +4,10 @@ from __future__ import annotations
 from dataclasses import replace
 from typing import Dict, Iterable, List, Mapping, Optional, Sequence, Tuple, Union
 
-from .._deprecated import deprecated
-from .._nearest import meant
 from .._answers_again import AnswerReader
+from .._deprecated import deprecated
+from .._limits import style_limits
+from .._nearest import meant
 from ..answer import Answer, Item, Node, Tree
 from ..answer import Citation as WrittenCitation
 from ..errors import TextRefused
@@ -35,6 +36,7 @@ def render(style: StyleLike, references: Optional[ReferencesLike] = None,
            citations: Optional[Iterable[CitationLike]] = None, *,
            nocite: Union[str, Iterable[str]] = (), locale: Optional[str] = None,
            locales: Optional[Locales] = None, abbreviations: Optional[AbbreviationsLike] = None,
+           most_steps: Optional[int] = None, most_bytes: Optional[int] = None,
            entries: Optional[ReferencesLike] = None) -> Rendered:
     """Citations and the bibliography in a style.
 
@@ -55,6 +57,8 @@ def render(style: StyleLike, references: Optional[ReferencesLike] = None,
     `locale` is the language in place of the style's; `locales` a folder of locale files in place of
     Debian's, or the paths or texts of some. `abbreviations` are short forms of texts, as of the
     titles of journals: the path of a file in the form of pandoc and Zotero, or what its JSON has.
+    `most_steps` and `most_bytes` are what the style may take for each cite and each entry, in place
+    of what no published style comes near (docs/STYLE_FILES.md).
     `entries` is the older name of `references`.
 
     What is odd, in the file of the references too, is in the `warnings` of what is rendered. An
@@ -62,7 +66,8 @@ def render(style: StyleLike, references: Optional[ReferencesLike] = None,
     Raises StyleMissing where there is no such style, StyleRefused where a style or a locale file
     isn't one, CitationRefused where a citation isn't one or cites an entry that isn't there,
     EntriesRefused where the references are no list, AbbreviationsRefused where abbreviations aren't
-    of their form (each of these is a ValueError); NumberOverflow or OutOfMemory, and
+    of their form, StyleLimitExceeded where the style takes more than it may, LimitsRefused where a
+    limit is none (each of these is a ValueError); NumberOverflow or OutOfMemory, and
     LibraryMissing; what `references.load` raises of a path. All of these but an OSError of a file
     are GamhilonErrors.
     """
@@ -70,7 +75,8 @@ def render(style: StyleLike, references: Optional[ReferencesLike] = None,
     reader = CitationReader()
     found = load(style_of(style))
     cites = reader.citations(() if citations is None else citations)
-    renderer = Renderer(found, given, locale, locales, abbreviations_of(abbreviations))
+    renderer = Renderer(found, given, locale, locales, abbreviations_of(abbreviations),
+                        style_limits(most_steps, most_bytes))
     return renderer.render(cites, '*' if citations is None else nocite, reader.warnings)
 
 
@@ -81,11 +87,12 @@ class Renderer:
 
     def __init__(self, style: Style, references: ReferencesLike, locale: Optional[str] = None,
                  locales: Optional[Locales] = None, abbreviations: Optional[Abbreviations] = None,
-                 is_kept: bool = False) -> None:
+                 limits: Optional[Mapping[str, int]] = None, is_kept: bool = False) -> None:
         reader = EntryReader()
         items, odd = read_of(references)
         self._style, self._locales, self._abbreviations = style, locales, abbreviations
         self._entries, self._warnings = reader.entries(items), [*odd, *reader.warnings]
+        self._limits = limits
         self._language = with_dialect(locale or style.language or LANGUAGE)
         self._files: Optional[List[LocaleFile]] = None
         self._texts = EntryTexts()
@@ -112,7 +119,7 @@ class Renderer:
             self._files = files_for(self._language, self._locales)
         entries = list(_cited(self._entries, asked).values())
         return Document(self._style, self._files, entries, asked, self._language,
-                        self._abbreviations, reader, self._texts)
+                        self._abbreviations, self._limits, reader, self._texts)
 
 
 def _references(references: Optional[ReferencesLike],
@@ -154,7 +161,7 @@ def about(style: StyleLike) -> About:
 
 def check_style(text: StyleLike, file: str = 'the style') -> List[Warned]:
     """What is odd in a style, as `render` takes it; `file` is how places name a text. Raises
-    StyleMissing and StyleRefused, as `render` does."""
+    StyleMissing, StyleRefused and StyleLimitExceeded, as `render` does."""
     return _refuse(_of_style(load(style_of(text), file)))
 
 

@@ -1,7 +1,8 @@
-//! The order of texts: letters, as the language has them in order, before accents before case,
-//! without regard to punctuation.
+//! The keys by which texts are compared.
+use crate::alphabets::Alphabet;
+use crate::letters::{NEXT, NEXT_OF_ALL, is_variant, with_sorted_letters};
+use crate::tables::LETTERS_OF_ALL;
 use caseless::default_case_fold_str;
-use csl_texts::alphabets::{BEHIND, LETTERS_OF_ALL, OwnLetter};
 use std::alloc::{AllocError, Global};
 use unicode_normalization::char::is_combining_mark;
 use unicode_normalization::{to_nfc, to_nfd, to_nfkd};
@@ -12,12 +13,12 @@ pub const SEPARATOR: char = '\u{2}';
 /// What stands between the names that a macro writes (`cite_names::rules::SORT_DELIMITER`).
 const BETWEEN_NAMES: char = '\u{1}';
 
-/// What that is compared as: behind a space, so that what the macro writes behind a name is before
+/// What that is compared as: after a space, so that what the macro writes after a name sorts before
 /// a second name, and before letters and digits.
 const AFTER_SPACE: char = '!';
 
 /// A text, as it is compared: by its letters, and where these are the same by accents, and then by
-/// case, small letters first.
+/// case.
 #[derive(Clone, PartialEq, Eq, PartialOrd, Ord, Drop)]
 pub struct CollationKey {
     letters: String,
@@ -26,7 +27,7 @@ pub struct CollationKey {
 }
 
 impl CollationKey {
-    /// The key of a text, in a language with these letters of its own.
+    /// The key of a text in a language of this alphabet.
     ///
     /// # Errors
     ///
@@ -34,52 +35,49 @@ impl CollationKey {
     pub fn of_text(
         alloc: Global,
         text: &str,
-        own: &[OwnLetter],
+        alphabet: Alphabet,
     ) -> Result<CollationKey, AllocError> {
-        if text.is_ascii() && !own.iter().any(|letter| letter.0.is_ascii()) {
-            return CollationKey::of_ascii(alloc, text);
+        if text.is_ascii() && !alphabet.has_dotless_i {
+            return CollationKey::of_ascii(alloc, text, alphabet);
         }
-        let mut key = CollationKey::empty(alloc);
         let decomposed = to_nfd(alloc, text)?;
-        let composed = to_nfc(alloc, text)?;
-        let folded = default_case_fold_str(alloc, composed.as_str())?;
-        let letters = with_own_letters(alloc, folded.as_str(), own)?;
-        let folded = to_nfkd(alloc, letters.as_str())?;
-        for c in folded.as_str().chars() {
-            key.push(c)?;
-        }
-        for c in decomposed.as_str().chars() {
-            if c.is_alphabetic() {
-                key.case.push(if c.is_uppercase() { '1' } else { '0' })?;
-            }
-        }
-        Ok(key)
+        let small = small_letters(alloc, decomposed.as_str(), alphabet)?;
+        let own = with_sorted_letters(alloc, small.as_str(), alphabet.letters)?;
+        let letters = with_sorted_letters(alloc, own.as_str(), LETTERS_OF_ALL)?;
+        let plain = to_nfkd(alloc, letters.as_str())?;
+        CollationKey::of_letters(alloc, plain.as_str(), decomposed.as_str(), alphabet)
     }
 
-    /// The key of a text of ASCII, in a language with none of its letters of its own. No table is
-    /// needed: nothing in it is decomposed, and only the case of letters is folded.
-    fn of_ascii(alloc: Global, text: &str) -> Result<CollationKey, AllocError> {
-        let mut key = CollationKey::empty(alloc);
-        for c in text.chars() {
-            if c.is_ascii_alphabetic() {
-                key.case
-                    .push(if c.is_ascii_uppercase() { '1' } else { '0' })?;
-            }
-            if c.is_ascii_alphanumeric() {
-                key.push_letter(c.to_ascii_lowercase())?;
-            } else {
-                key.push(c)?;
-            }
-        }
-        Ok(key)
+    /// The same of a text of ASCII. No table of Unicode is needed: nothing in it is decomposed, and
+    /// only the case of letters is folded.
+    fn of_ascii(alloc: Global, text: &str, alphabet: Alphabet) -> Result<CollationKey, AllocError> {
+        let small = text.to_ascii_lowercase(alloc)?;
+        let letters = with_sorted_letters(alloc, small.as_str(), alphabet.letters)?;
+        CollationKey::of_letters(alloc, letters.as_str(), text, alphabet)
     }
 
-    fn empty(alloc: Global) -> CollationKey {
-        CollationKey {
+    /// The key of a text in small letters as they are sorted, with the case that it has here.
+    fn of_letters(
+        alloc: Global,
+        letters: &str,
+        cased: &str,
+        alphabet: Alphabet,
+    ) -> Result<CollationKey, AllocError> {
+        let mut key = CollationKey {
             letters: String::new(alloc),
             accents: String::new(alloc),
             case: String::new(alloc),
+        };
+        for c in letters.chars() {
+            key.push(c)?;
         }
+        for c in cased.chars() {
+            if c.is_alphabetic() {
+                let is_later = c.is_uppercase() != alphabet.has_capitals_first;
+                key.case.push(if is_later { '1' } else { '0' })?;
+            }
+        }
+        Ok(key)
     }
 
     /// Adds a letter or a digit without an accent.
@@ -90,7 +88,7 @@ impl CollationKey {
 
     /// Adds a character of a decomposed text in small letters.
     fn push(&mut self, c: char) -> Result<(), AllocError> {
-        if c == SEPARATOR || c == BEHIND {
+        if c == SEPARATOR || c == NEXT || c == NEXT_OF_ALL {
             return self.letters.push(c);
         }
         if c == BETWEEN_NAMES {
@@ -103,7 +101,7 @@ impl CollationKey {
             }
             return self.letters.push(' ');
         }
-        if is_combining_mark(c) {
+        if is_combining_mark(c) || is_variant(c) {
             return self.accents.push(c);
         }
         if is_mark(c) || !c.is_alphanumeric() {
@@ -119,28 +117,24 @@ impl CollationKey {
     }
 }
 
-/// A text in small letters, with the letters of a language, and of all, as they are sorted.
-fn with_own_letters(alloc: Global, text: &str, own: &[OwnLetter]) -> Result<String, AllocError> {
-    let mut out = String::new(alloc);
-    for c in text.chars() {
-        match letter_in(own, c).or(letter_in(LETTERS_OF_ALL, c)) {
-            Some(sorted) => out.push_str(sorted)?,
-            None => out.push(c)?,
-        }
+/// A decomposed text in small letters, composed.
+fn small_letters(
+    alloc: Global,
+    decomposed: &str,
+    alphabet: Alphabet,
+) -> Result<String, AllocError> {
+    if !alphabet.has_dotless_i {
+        let composed = to_nfc(alloc, decomposed)?;
+        return default_case_fold_str(alloc, composed.as_str());
     }
-    Ok(out)
-}
-
-/// How a letter is sorted that is among these.
-fn letter_in(letters: &[OwnLetter], c: char) -> Option<&'static str> {
-    letters
-        .iter()
-        .find(|letter| letter.0 == c)
-        .map(|letter| letter.1)
+    let dotted = decomposed.replace(alloc, "I\u{307}", "i")?;
+    let small = dotted.as_str().replace(alloc, 'I', "ı")?;
+    let composed = to_nfc(alloc, small.as_str())?;
+    default_case_fold_str(alloc, composed.as_str())
 }
 
 /// Whether a letter stands for a mark of a transliteration, as the prime or the okina, which is
-/// passed over as punctuation is.
+/// ignored as punctuation is.
 fn is_mark(c: char) -> bool {
     matches!(c, '\u{2b9}'..='\u{2bf}')
 }
