@@ -65,7 +65,8 @@ class AnswerReader:
 def _parts_of(text: str) -> Optional[_Parts]:
     """The texts of an answer; None where it has another form."""
     listed, told = text.find(_LISTED), text.find(_TOLD)
-    if listed < 0 or text.rfind(_LISTED) != listed or text.rfind(_TOLD) != told:
+    if listed < 0 or text.find(_LISTED, listed + 1) >= 0 or \
+            told >= 0 and text.find(_TOLD, told + 1) >= 0:
         return None
     begin, end = text.find('[', listed), told if told > listed else len(text)
     citations = text[begin + 1:text.rfind(']', begin, end)]
