@@ -8,9 +8,9 @@ from typing import Any, Dict, Iterable, List, Mapping, Optional, Sequence, Set
 from . import csl
 from ._locators import words_of
 from ._pandoc_marks import without_marks
-from .answer import Bibliography, Tree
+from .answer import Bibliography, Citation, Tree
 from .csl.abbreviations import abbreviations_of
-from .csl.cites import CitationReader
+from .csl.cites import CitationPart, CitationParts, CitationReader
 from .csl.rendering import Renderer
 from .csl.style import load
 
@@ -43,13 +43,42 @@ class PageCitation:
 
 @dataclass(frozen=True)
 class Answered:
-    """What a style writes: the tree of each citation; where its author stands in the text, the tree
-    that has it too; and the reference list."""
+    """What a style writes: each citation; where its author stands in the text, the tree that has it
+    too; and the reference list."""
 
-    trees: List[Tree]
+    citations: List[Citation]
     with_authors: List[Optional[Tree]]
     bibliography: Optional[Bibliography]
     warnings: List[csl.Warned]
+
+    @property
+    def trees(self) -> List[Tree]:
+        """The trees of the citations."""
+        return [citation.content for citation in self.citations]
+
+
+class Asking:
+    """Citations that are asked for together, as those of a page that is read. What the style is
+    asked for of them is made once, unless it is one of notes, in which that depends on what stands
+    before them."""
+
+    def __init__(self, citations: Sequence[PageCitation]) -> None:
+        self.citations = citations
+        self._parts: Dict[bool, Optional[CitationPart]] = {}
+
+    @cached_property
+    def are_named(self) -> List[bool]:
+        """Of each of them whether its author stands in the text."""
+        return [citation.names_author for citation in self.citations]
+
+    def part(self, keeps_authors: bool) -> Optional[CitationPart]:
+        """What the style is asked for; None where something is odd in that."""
+        keeps_authors = keeps_authors and True in self.are_named
+        if keeps_authors not in self._parts:
+            asked = [citation.asked(keeps_authors) for citation in self.citations]
+            is_settled = all(citation.is_settled for citation in asked)
+            self._parts[keeps_authors] = CitationPart(asked) if is_settled else None
+        return self._parts[keeps_authors]
 
 
 class CitedStyle:
@@ -85,20 +114,40 @@ class CitedStyle:
         reader = CitationReader()
         asked = reader.citations(self._asked(citations, nocite, keeps_authors=False))
         rendered = self._rendering().render(asked, warnings=reader.warnings)
-        trees = [citation.content for citation in rendered.answer.citations]
-        whole = trees
-        if any(citation.names_author for citation in citations):
+        written = rendered.answer.citations
+        whole = written
+        are_named = [citation.names_author for citation in citations]
+        if any(are_named):
             again = self._asked(citations, nocite, keeps_authors=True)
-            whole = self._rendering().trees(CitationReader().citations(again))
-        places = _places(citations, self.is_note)
-        with_authors = [whole[place] if citation.names_author else None
-                        for place, citation in zip(places, citations)]
-        numbers = {place: number for number, place in enumerate(places)}
+            whole = self._rendering().citations(CitationReader().citations(again))
+        places = _places(citations) if self.is_note else range(len(citations))
+        with_authors = [whole[place].content if is_named else None
+                        for place, is_named in zip(places, are_named)]
+        numbers = {place: number for number, place in enumerate(places)} \
+            if rendered.warnings else {}
         warnings = [warned for warned in rendered.warnings
                     if warned.citation is None or warned.citation in numbers]
-        return Answered([trees[place] for place in places], with_authors,
+        return Answered([written[place] for place in places], with_authors,
                         rendered.answer.bibliography,
                         [_of_page(warned, numbers) for warned in warnings])
+
+    def answer_pages(self, pages: Sequence[Asking], nocite: Sequence[str]) -> Answered:
+        """The same of the citations of pages, of which only some have changed since."""
+        asked, again = (None, None) if self.is_note else (
+            _parts_of(pages, False, nocite), _parts_of(pages, True, nocite))
+        if asked is None or again is None:
+            return self.answer([citation for page in pages for citation in page.citations], nocite)
+        rendered = self._rendering().render(asked)
+        are_named = [is_named for page in pages for is_named in page.are_named]
+        with_authors: List[Optional[Tree]] = [None] * len(are_named)
+        if True in are_named:
+            whole = self._rendering().citations(again)
+            with_authors = [citation.content if is_named else None
+                            for citation, is_named in zip(whole, are_named)]
+        warnings = [warned for warned in rendered.warnings
+                    if warned.citation is None or warned.citation < len(are_named)]
+        return Answered(rendered.answer.citations[:len(are_named)], with_authors,
+                        rendered.answer.bibliography, warnings)
 
     def _asked(self, citations: Sequence[PageCitation], nocite: Sequence[str],
                keeps_authors: bool) -> List[csl.Citation]:
@@ -108,16 +157,30 @@ class CitedStyle:
             if self.is_note and _repeats(citations, number):
                 asked.append(_between(citations[number - 1]))
             asked.append(citation.asked(keeps_authors))
-        if nocite:
-            asked.append(csl.Citation(tuple(csl.Cite(key, hidden=True) for key in nocite)))
-        return asked
+        return [*asked, *_listed(nocite)]
 
     def _rendering(self) -> Renderer:
         """The style with its references, which are read once."""
         if self._renderer is None:
             self._renderer = Renderer(load(self.name), list(self.items.values()), self.locale,
-                                      self.locales, self._abbreviations)
+                                      self.locales, self._abbreviations, is_kept=True)
         return self._renderer
+
+
+def _listed(nocite: Sequence[str]) -> List[csl.Citation]:
+    """What lists works that no citation is of: one that isn't shown, if there are any."""
+    cites = tuple([csl.Cite(key, hidden=True) for key in nocite])
+    return [csl.Citation(cites)] if cites else []
+
+
+def _parts_of(pages: Sequence[Asking], keeps_authors: bool,
+              nocite: Sequence[str]) -> Optional[CitationParts]:
+    """What a style is asked for of pages; None where something is odd in that."""
+    parts = [page.part(keeps_authors) for page in pages]
+    listed = _listed(nocite)
+    if None in parts or not all(citation.is_settled for citation in listed):
+        return None
+    return CitationParts([*(part for part in parts if part is not None), CitationPart(listed)])
 
 
 def _repeats(citations: Sequence[PageCitation], number: int) -> bool:
@@ -135,12 +198,12 @@ def _between(before: PageCitation) -> csl.Citation:
     return csl.Citation((hidden, hidden))
 
 
-def _places(citations: Sequence[PageCitation], is_note: bool) -> List[int]:
-    """The places of citations among those that are asked for."""
+def _places(citations: Sequence[PageCitation]) -> List[int]:
+    """The places of citations among those that are asked for of a style of notes."""
     places: List[int] = []
     at = 0
     for number in range(len(citations)):
-        at += is_note and _repeats(citations, number)
+        at += _repeats(citations, number)
         places.append(at)
         at += 1
     return places

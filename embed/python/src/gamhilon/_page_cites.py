@@ -3,6 +3,7 @@ from __future__ import annotations
 
 import re
 from dataclasses import dataclass, field
+from functools import cached_property
 from typing import Callable, Dict, List, Mapping, Optional, Sequence, Set, Tuple, Union
 
 from . import csl
@@ -60,7 +61,7 @@ class CitationOfPage(PageCitation):
     def keys(self) -> List[str]:
         return [cited.cite.id for cited in self.cited]
 
-    @property
+    @cached_property
     def names_author(self) -> bool:
         return self.is_in_text and bool(self.cited) and not self.keeps_names
 

@@ -1,7 +1,8 @@
 """The answer to a document, as values."""
 from __future__ import annotations
 
-from dataclasses import dataclass, field
+from dataclasses import dataclass, field, fields
+from functools import cached_property
 from typing import Any, Dict, List, Optional, Sequence, Union
 
 from . import _deep_json
@@ -23,6 +24,11 @@ class Citation:
     content: Tree
     note_number: Optional[int] = None
 
+    @cached_property
+    def shows_nothing(self) -> bool:
+        """Whether it has no text but white space."""
+        return shows_nothing(self.content)
+
 
 @dataclass(frozen=True)
 class Item:
@@ -32,6 +38,12 @@ class Item:
     key: str
     content: Tree
     first_field: Optional[Node] = None
+
+    @cached_property
+    def shows_nothing(self) -> bool:
+        """Whether it has no text but white space."""
+        return shows_nothing(self.content) and (
+            self.first_field is None or shows_nothing([self.first_field]))
 
 
 @dataclass(frozen=True)
@@ -80,7 +92,8 @@ def data_of(answer: Answer) -> Dict[str, Any]:
 
 
 def _told(part: Union[Bibliography, Citation, Item]) -> Dict[str, Any]:
-    return {key: value for key, value in vars(part).items() if value is not None}
+    told = {one.name: getattr(part, one.name) for one in fields(part)}
+    return {key: value for key, value in told.items() if value is not None}
 
 
 def tree_of(part: Union[Citation, Node, Tree]) -> Tree:

@@ -16,18 +16,19 @@ from __future__ import annotations
 import re
 from bisect import bisect_right
 from dataclasses import dataclass, field, replace
+from functools import cached_property
 from typing import (Callable, Dict, Iterable, List, Mapping, NamedTuple, Optional, Sequence, Tuple,
                     Union)
 
 from . import csl
-from ._cited_style import CitedStyle
+from ._cited_style import Asking, CitedStyle
 from ._markdown_blocks import Blocks, Paragraph, blocks_of
 from ._nearest import meant
 from ._page_cites import (CitationOfPage, CitationWriter, Written, capitalized, citation_of,
                           text_of_runs, unknown, without_full_stop)
 from ._page_writers import HtmlInMarkdown, PageWriter, heading
 from ._writing import anchor
-from .answer import Bibliography, Tree
+from .answer import Bibliography, Citation, Tree
 from .citation_text import CitationReader, NoteMark, TextCitation
 from .csl.handed_in import read_of
 
@@ -35,6 +36,9 @@ __all__ = ['CitedPage', 'PageWarning', 'PreparedStyle', 'Site', 'cite_page']
 
 TITLE = 'References'
 """The heading below which a reference list stands, where no other is named."""
+
+
+_NO_TARGETS: Dict[str, str] = {}
 
 
 @dataclass(frozen=True)
@@ -73,12 +77,13 @@ class _Edit(NamedTuple):
 
 @dataclass
 class _Answered:
-    """What comes of the citations of a page for which the style is asked: `trees` is what it writes
-    of each, and `said` what is odd in one of them, by its place among them. These, the addresses
-    to which the cites lead and the list of the page are all of which the page is drawn beside its
-    own text."""
+    """What comes of the citations of a page for which the style is asked: what it writes of each,
+    and with its author where that stands in the text; and `said` is what is odd in one of them, by
+    its place among them. These, the addresses to which the cites lead and the list of the page are
+    all of which the page is drawn beside its own text."""
 
-    trees: List[Tuple[Tree, Optional[Tree]]] = field(default_factory=list)
+    citations: List[Citation] = field(default_factory=list)
+    with_authors: List[Optional[Tree]] = field(default_factory=list)
     said: List[Tuple[int, str]] = field(default_factory=list)
     targets: Dict[str, Optional[str]] = field(default_factory=dict)
     listed: Optional[Bibliography] = None
@@ -107,11 +112,29 @@ class _Page:
     lost: List[PageWarning] = field(default_factory=list)
     written: Dict[int, Written] = field(default_factory=dict)
     shown: Optional[CitedPage] = None
+    _targets: Optional[Tuple[Dict[str, str], Dict[str, Optional[str]]]] = field(
+        default=None, init=False, repr=False, compare=False)
 
-    @property
+    @cached_property
     def asked(self) -> List[CitationOfPage]:
-        """The citations that the style is asked for."""
+        """The citations that the style is asked for, once the page is read."""
         return [citation for citation in self.citations if citation.cited]
+
+    @cached_property
+    def asking(self) -> Asking:
+        """What the style is asked for, once the page is read."""
+        return Asking(self.asked)
+
+    @cached_property
+    def keys(self) -> Dict[str, None]:
+        """The keys that it cites, once it is read."""
+        return {key: None for citation in self.citations for key in citation.keys}
+
+    def targets_among(self, targets: Dict[str, str]) -> Dict[str, Optional[str]]:
+        """The addresses to which its cites lead, among those of all items."""
+        if self._targets is None or self._targets[0] is not targets:
+            self._targets = targets, {key: targets.get(key) for key in self.keys}
+        return self._targets[1]
 
     def warning(self, at: int, message: str) -> PageWarning:
         """Something that is odd at a place of the text."""
@@ -207,6 +230,7 @@ class Site:
         self.bibliography: Optional[Bibliography] = None
         self._notes = 0
         self._nocite: Tuple[str, ...] = ()
+        self._listed: List[str] = []
         self._addresses: Dict[str, Dict[str, str]] = {}
         self._places: Dict[str, int] = {}
 
@@ -264,20 +288,24 @@ class Site:
     def _ask(self) -> None:
         """Asks the style for the citations of all pages. Those of which it writes something else
         than before are to be drawn."""
-        asked = [(page, citation) for page in self.pages.values() for citation in page.asked]
         self.warnings = [PageWarning(warned.place, None, None, warned.message)
                          for warned in self.style.warnings]
-        answer = self.style.answer([citation for _, citation in asked], self._listed_anyway())
+        answer = self.style.answer_pages([page.asking for page in self.pages.values()],
+                                         self._listed_anyway())
         self.bibliography = answer.bibliography
-        self._addresses, self._places = {}, {}
-        answered = {name: _Answered() for name in self.pages}
-        for (page, _), tree, whole in zip(asked, answer.trees, answer.with_authors):
-            answered[page.name].trees.append((tree, whole))
-        self._warn(asked, answer.warnings, answered)
+        listed = [item.key for item in answer.bibliography.items] if answer.bibliography else []
+        if listed != self._listed:
+            self._listed, self._addresses, self._places = listed, {}, {}
+        answered, begin = {}, 0
+        for page in self.pages.values():
+            end = begin + len(page.asked)
+            answered[page.name] = _Answered(answer.citations[begin:end],
+                                            answer.with_authors[begin:end])
+            begin = end
+        self._warn(answer.warnings, answered)
         for page in self.pages.values():
             made, targets = answered[page.name], self._targets(page.name)
-            made.targets = {key: targets.get(key) for citation in page.citations
-                            for key in citation.keys}
+            made.targets = page.targets_among(targets)
             made.listed = self.listed(page.name)
             page.is_drawn = page.is_drawn and page.answered == made
             page.answered = made
@@ -288,8 +316,10 @@ class Site:
         asked, nested = page.asked, {id(citation) for citation in page.nested}
         page.lost = []
         # (those in the words of another one follow it)
-        for citation, (tree, whole) in reversed(list(zip(asked, page.answered.trees))):
-            written = writer.written(citation, tree, whole)
+        answered = page.answered
+        for citation, made, whole in reversed(list(zip(asked, answered.citations,
+                                                       answered.with_authors))):
+            written = writer.written(citation, made.content, whole)
             page.written[id(citation)] = written
             if id(citation) in nested:
                 writer.texts[id(citation)] = _in_line(writer, citation, written, True)
@@ -316,14 +346,13 @@ class Site:
         if self.list_page is None and len(self.pages) > 1:
             if not self._places:
                 self._places = {item.key: place for place, item in enumerate(items)}
-            keys = {key for citation in self.pages[page].citations for key in citation.keys}
-            items = [items[place] for place in sorted(self._places[key] for key in keys
-                                                      if key in self._places)]
+            items = [items[place] for place in sorted(
+                self._places[key] for key in self.pages[page].keys if key in self._places)]
         return replace(self.bibliography, items=items) if items else None
 
     def _targets(self, page: str) -> Dict[str, str]:
         if not self.links or self.bibliography is None:
-            return {}
+            return _NO_TARGETS
         address = '' if self.list_page in (None, page) else self.address(page)
         if address not in self._addresses:
             self._addresses[address] = {item.key: f'{address}#{anchor(item.key)}'
@@ -344,19 +373,18 @@ class Site:
         """What is said of a key that no entry has."""
         return f'no entry has the key {key}{meant(key, self.style.keys)}'
 
-    def _warn(self, asked: Sequence[Tuple[_Page, CitationOfPage]],
-              warnings: Sequence[csl.Warned], answered: Mapping[str, _Answered]) -> None:
-        firsts = {page.name: place for place, (page, _) in reversed(list(enumerate(asked)))} \
-            if warnings else {}
+    def _warn(self, warnings: Sequence[csl.Warned], answered: Mapping[str, _Answered]) -> None:
+        asked = [(page, place) for page in self.pages.values() for place in range(len(page.asked))
+                 ] if warnings else []
         for warned in warnings:
             if warned.citation is None:
                 self.warnings.append(PageWarning(warned.place, None, None, warned.message))
                 continue
-            page, citation = asked[warned.citation]
+            page, place = asked[warned.citation]
+            citation = page.asked[place]
             is_whole = not citation.names_author and not any(
                 cited.cite.suppress_author for cited in citation.cited)
             if is_whole:
-                place = warned.citation - firsts[page.name]
                 answered[page.name].said.append((place, warned.message))
 
 

@@ -3,15 +3,16 @@ from __future__ import annotations
 
 import json
 from dataclasses import dataclass, replace
-from typing import Any, Dict, List, Mapping, Optional, Sequence
+from typing import Any, Dict, List, Mapping, Optional, Sequence, Tuple
 
+from .._answers_again import AnswerReader
 from .._citing import cite_texts
 from .._library import CiteTexts
 from ..answer import Answer
 from ..errors import StyleLimitExceeded, TextRefused
 from ..texts import TextFault, TextWarning
 from .abbreviations import Abbreviations
-from .cites import Citation
+from .cites import Citation, json_of_citations
 from .entries import Entry
 from .errors import (AbbreviationsRefused, CitationRefused, EntriesRefused, StyleRefused,
                      place)
@@ -20,10 +21,29 @@ from .style import Style
 from .warned import Warned
 
 
+class EntryTexts:
+    """The JSON of entries, which is made once for each of them."""
+
+    def __init__(self) -> None:
+        self._made: Dict[str, Tuple[Entry, str]] = {}
+
+    def json(self, entries: Sequence[Entry]) -> bytes:
+        """The JSON of a list of entries."""
+        return f'[{", ".join(map(self._of, entries))}]'.encode('utf-8', 'replace')
+
+    def _of(self, entry: Entry) -> str:
+        key = str(entry['id'])
+        known = self._made.get(key)
+        if known is None or known[0] is not entry:
+            known = self._made[key] = entry, json.dumps(entry, ensure_ascii=False)
+        return known[1]
+
+
 @dataclass(frozen=True)
 class Document:
     """What is rendered: a style, locale files, entries, citations, the language in place of the
-    style's, abbreviations, and limits in place of the usual ones."""
+    style's, abbreviations, and limits in place of the usual ones. `reader` and `texts` are those of
+    documents that are much alike."""
 
     style: Style
     locales: Sequence[LocaleFile]
@@ -32,21 +52,22 @@ class Document:
     language: str
     abbreviations: Optional[Abbreviations] = None
     limits: Optional[Mapping[str, int]] = None
+    reader: Optional[AnswerReader] = None
+    texts: Optional[EntryTexts] = None
 
     def answer(self, warns: bool = True) -> Answer:
         """The answer, with what is odd unless that isn't asked for. Raises TextRefused where a part
         of the document is wrong; StyleLimitExceeded, NumberOverflow or OutOfMemory; and
         LibraryMissing."""
         try:
-            return cite_texts(self._texts(), warns)
+            return cite_texts(self._texts(), warns, self.reader)
         except StyleLimitExceeded as refusal:
             raise self._excess(refusal) from None
 
     def _texts(self) -> CiteTexts:
-        citations = ', '.join([citation.json for citation in self.citations])
         return CiteTexts(
-            style=bytes_of(self.style.text), items=json_of(self.entries),
-            citations=f'[{citations}]'.encode('utf-8', 'replace'),
+            style=bytes_of(self.style.text), items=(self.texts or EntryTexts()).json(self.entries),
+            citations=json_of_citations(self.citations),
             locales=json_of([locale.text for locale in self.locales]),
             options=json_of(self._options()))
 

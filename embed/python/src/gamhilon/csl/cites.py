@@ -7,15 +7,15 @@ import reprlib
 from collections import abc
 from dataclasses import dataclass
 from functools import cached_property
-from typing import (Any, Dict, Iterator, List, Mapping, Optional, Sequence, Tuple, Union,
+from typing import (Any, Dict, Iterator, List, Mapping, Optional, Sequence, Set, Tuple, Union,
                     overload)
 
 from .._nearest import meant
 from .errors import CitationRefused, place
 from .warned import Warned
 
-__all__ = ['LABELS', 'Citation', 'CitationLike', 'CitationReader', 'Cite', 'CiteLike',
-           'CiteSequence']
+__all__ = ['LABELS', 'Citation', 'CitationLike', 'CitationPart', 'CitationParts',
+           'CitationReader', 'Cite', 'CiteLike', 'CiteSequence', 'ids_of', 'json_of_citations']
 
 LABELS = (
     'act', 'appendix', 'article-locator', 'book', 'canon', 'chapter', 'column', 'elocation',
@@ -124,6 +124,70 @@ class Citation(CiteSequence):
         """The JSON of `data`."""
         return _JSON.encode(self.data())
 
+    @cached_property
+    def ids(self) -> Tuple[str, ...]:
+        """The keys of its cites, in their order."""
+        return tuple([cite.id for cite in self.cites])
+
+    @cached_property
+    def is_settled(self) -> bool:
+        """Whether each of its cites is of its form, and says nothing that is left out."""
+        return all(isinstance(cite, Cite) and _is_settled(cite) for cite in self.cites)
+
+
+class CitationPart:
+    """Citations of a document that stay together, as those of a page: their JSON, with commas
+    between, and the keys of their cites. Each of them `is_settled`."""
+
+    def __init__(self, citations: Sequence[Citation]) -> None:
+        self.citations = tuple(citations)
+        text = ', '.join([citation.json for citation in self.citations])
+        self.json = text.encode('utf-8', 'replace')
+        self.ids = frozenset([key for citation in self.citations for key in citation.ids])
+
+
+class CitationParts(Sequence[Citation]):
+    """The citations of a document, in parts of which each is made once for many documents."""
+
+    def __init__(self, parts: Sequence[CitationPart]) -> None:
+        self._parts = parts
+        self._citations = [citation for part in parts for citation in part.citations]
+
+    def __len__(self) -> int:
+        return len(self._citations)
+
+    @overload
+    def __getitem__(self, index: int) -> Citation: ...
+
+    @overload
+    def __getitem__(self, index: slice) -> Sequence[Citation]: ...
+
+    def __getitem__(self, index: Union[int, slice]) -> Union[Citation, Sequence[Citation]]:
+        return self._citations[index]
+
+    def json(self) -> bytes:
+        """The JSON of the list of these citations."""
+        return b'[' + b', '.join([part.json for part in self._parts if part.citations]) + b']'
+
+    def ids(self) -> Set[str]:
+        """The keys of all cites."""
+        return set().union(*[part.ids for part in self._parts])
+
+
+def ids_of(citations: Sequence[Citation]) -> Set[str]:
+    """The keys of all cites of citations."""
+    if isinstance(citations, CitationParts):
+        return citations.ids()
+    return {key for citation in citations for key in citation.ids}
+
+
+def json_of_citations(citations: Sequence[Citation]) -> bytes:
+    """The JSON of a list of citations."""
+    if isinstance(citations, CitationParts):
+        return citations.json()
+    text = ', '.join([citation.json for citation in citations])
+    return f'[{text}]'.encode('utf-8', 'replace')
+
 
 CitationLike = Union[Citation, Sequence[CiteLike], Mapping[str, Any]]
 """A citation, a list of cites, or an object as in csl-citation.json: `citationItems`, and maybe
@@ -140,7 +204,8 @@ class CitationReader:
         """The citations of a document. Raises CitationRefused where one isn't of its form."""
         if not _is_list(values) and not isinstance(values, Iterator):
             raise CitationRefused(None, None, None, 'the citations are no list of citations')
-        return [self._citation(number, value) for number, value in enumerate(values)]
+        return [value if type(value) is Citation and value.is_settled
+                else self._citation(number, value) for number, value in enumerate(values)]
 
     def _citation(self, number: int, value: Any) -> Citation:
         if isinstance(value, Citation):

@@ -4,14 +4,16 @@ from __future__ import annotations
 from dataclasses import replace
 from typing import Dict, Iterable, List, Mapping, Optional, Sequence, Tuple, Union
 
+from .._answers_again import AnswerReader
 from .._deprecated import deprecated
 from .._limits import style_limits
 from .._nearest import meant
-from ..answer import Answer, Item, Node, Tree, shows_nothing
+from ..answer import Answer, Item, Node, Tree
+from ..answer import Citation as WrittenCitation
 from ..errors import TextRefused
 from .abbreviations import Abbreviations, AbbreviationsLike, abbreviations_of
-from .calling import Document, steps_of
-from .cites import Citation, CitationLike, CitationReader, Cite
+from .calling import Document, EntryTexts, steps_of
+from .cites import Citation, CitationLike, CitationReader, Cite, ids_of
 from .entries import Entry, EntryReader, stand_in, warned_of_stand_in
 from .errors import CitationRefused, StyleRefused
 from .handed_in import ReferencesLike, StyleLike, read_of, style_of
@@ -80,12 +82,12 @@ def render(style: StyleLike, references: Optional[ReferencesLike] = None,
 
 class Renderer:
     """A style with references, which are read once, and write citations as often as they are asked
-    for. Raises what `render` raises of them."""
+    for. One that `is_kept` answers to much the same again and again, and reads of each answer what
+    has changed. Raises what `render` raises of them."""
 
     def __init__(self, style: Style, references: ReferencesLike, locale: Optional[str] = None,
-                 locales: Optional[Locales] = None,
-                 abbreviations: Optional[Abbreviations] = None,
-                 limits: Optional[Mapping[str, int]] = None) -> None:
+                 locales: Optional[Locales] = None, abbreviations: Optional[Abbreviations] = None,
+                 limits: Optional[Mapping[str, int]] = None, is_kept: bool = False) -> None:
         reader = EntryReader()
         items, odd = read_of(references)
         self._style, self._locales, self._abbreviations = style, locales, abbreviations
@@ -93,21 +95,23 @@ class Renderer:
         self._limits = limits
         self._language = with_dialect(locale or style.language or LANGUAGE)
         self._files: Optional[List[LocaleFile]] = None
+        self._texts = EntryTexts()
+        self._answers, self._alone = (AnswerReader(), AnswerReader()) if is_kept else (None, None)
 
     def render(self, citations: Sequence[Citation], nocite: Union[str, Iterable[str]] = (),
                warnings: Sequence[Warned] = ()) -> Rendered:
         """What `render` gives of citations that are of their form; `warnings` are those of reading
         them."""
-        document = self._document(citations, nocite)
+        document = self._document(citations, nocite, self._answers)
         return _rendered(document, [*self._warnings, *warnings], len(citations))
 
-    def trees(self, citations: Sequence[Citation]) -> List[Tree]:
-        """The trees of citations alone, without what is odd."""
-        _, answer = _answered(self._document(citations, ()), [], warns=False)
-        return [citation.content for citation in answer.citations]
+    def citations(self, citations: Sequence[Citation]) -> List[WrittenCitation]:
+        """What is written of citations alone, without what is odd."""
+        _, answer = _answered(self._document(citations, (), self._alone), [], warns=False)
+        return answer.citations
 
-    def _document(self, citations: Sequence[Citation],
-                  nocite: Union[str, Iterable[str]]) -> Document:
+    def _document(self, citations: Sequence[Citation], nocite: Union[str, Iterable[str]],
+                  reader: Optional[AnswerReader]) -> Document:
         listed = _listed(self._entries, nocite)
         hidden = Citation(tuple(Cite(key, hidden=True) for key in listed))
         asked = [*citations, hidden] if listed else citations
@@ -115,7 +119,7 @@ class Renderer:
             self._files = files_for(self._language, self._locales)
         entries = list(_cited(self._entries, asked).values())
         return Document(self._style, self._files, entries, asked, self._language,
-                        self._abbreviations, self._limits)
+                        self._abbreviations, self._limits, reader, self._texts)
 
 
 def _references(references: Optional[ReferencesLike],
@@ -216,14 +220,15 @@ def _refuse(document: Document) -> List[Warned]:
 
 def _cited(entries: Dict[str, Entry], citations: Sequence[Citation]) -> Dict[str, Entry]:
     """The entries that are cited. Raises CitationRefused where one isn't there."""
-    cited = set()
+    cited = ids_of(citations)
+    if cited <= entries.keys():
+        return {key: entry for key, entry in entries.items() if key in cited}
     for number, citation in enumerate(citations):
         for index, cite in enumerate(citation.cites):
             if cite.id not in entries:
                 fault = f'there is no entry {cite.id!r}{meant(cite.id, entries)}'
                 raise CitationRefused(number, index, 'id', fault)
-            cited.add(cite.id)
-    return {key: entry for key, entry in entries.items() if key in cited}
+    return {}
 
 
 def _rendered(document: Document, warnings: List[Warned], shown: int) -> Rendered:
@@ -268,18 +273,25 @@ def _mended(document: Document, refusal: TextRefused, warnings: List[Warned]) ->
 def _with_stand_ins(document: Document, answer: Answer, warnings: List[Warned]) -> Answer:
     """The answer, in whose list the id stands for an entry of which the style writes nothing. Warns
     of that, and of citations that show nothing."""
-    for number, (citation, cites) in enumerate(zip(answer.citations, document.citations)):
-        if shows_nothing(citation.content) and not all(cite.hidden for cite in cites):
+    for number in _showing_nothing(document, answer):
+        if not all(cite.hidden for cite in document.citations[number]):
             warnings.append(Warned(f'citation {number}', NOTHING, citation=number))
     if answer.bibliography is None:
         return answer
     items = []
     for item in answer.bibliography.items:
-        if shows_nothing(item.content) and shows_nothing([item.first_field or {'text': ''}]):
+        if item.shows_nothing:
             warnings.append(warned_of_stand_in(item.key, NOTHING))
             item = Item(item.key, _stand_in(item.key))
         items.append(item)
     return replace(answer, bibliography=replace(answer.bibliography, items=items))
+
+
+def _showing_nothing(document: Document, answer: Answer) -> List[int]:
+    """The indices of the citations that show nothing."""
+    if document.reader is not None:
+        return document.reader.showing_nothing(answer)
+    return [number for number, citation in enumerate(answer.citations) if citation.shows_nothing]
 
 
 def _stand_in(key: str) -> Tree:
