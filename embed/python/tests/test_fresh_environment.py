@@ -142,7 +142,7 @@ def test_the_guide_of_mkdocs(guide, published):
     settings = with_library(blocks('MKDOCS', 'yaml')[0])
     (guide.folder / 'mkdocs.yml').write_text(f'site_name: Own\n{settings}')
     (guide.folder / 'docs').mkdir()
-    (guide.folder / 'docs/index.md').write_text('# Home\n\nSpecies vary [see @darwin1859, p. 84].\n')
+    (guide.folder / 'docs/index.md').write_text('# Home\n\nSpecies vary [@darwin1859, p. 84].\n')
     (guide.folder / 'docs/references.md').write_text('# References\n')
     guide.run(guide.python, '-m', 'mkdocs', 'build', '--strict', '--quiet')
     home = (guide.folder / 'site/index.html').read_text()

@@ -11,7 +11,8 @@ from stand_ins import NumberedStyle  # noqa: E402
 from test_sphinx import Project  # noqa: E402
 
 # Each work has its key as its title.
-WORK = '@{kind}{{{key},\n  author = {{{author}}},\n  title = {{{{{key}}}}},\n  year = {{{year}}}{more}\n}}\n'
+WORK = ('@{kind}{{{key},\n  author = {{{author}}},\n  title = {{{{{key}}}}},\n'
+        '  year = {{{year}}}{more}\n}}\n')
 RIVERS = [('book', 'adler1999', 'Ruth Adler', 1999, 'publisher = {Meander Press}'),
           ('article', 'bauer2004', 'Karl Bauer and Li Chen', 2004,
            'journal = {Journal of Streams}, volume = 12, pages = {101--119}'),

@@ -46,7 +46,7 @@ class AnswerReader:
         self._before: Optional[_Read] = None
 
     def read(self, text: str, warnings: Sequence[TextWarning] = ()) -> Answer:
-        """The answer of which this is the JSON, as `answer_of` gives it."""
+        """The answer that this JSON is, as `answer_of` gives it."""
         before, parts = self._before, _parts_of(text)
         read = None if parts is None else _read_again(parts, before) if before else _read(parts)
         self._before = read
@@ -76,7 +76,7 @@ def _parts_of(text: str) -> Optional[_Parts]:
 
 
 def _read(parts: _Parts) -> Optional[_Read]:
-    """An answer that is read as a whole."""
+    """Reads a whole answer."""
     citations, starts = _citations_in(parts.citations), _starts_in(parts.citations)
     if len(citations) != len(starts):
         return None
@@ -85,7 +85,7 @@ def _read(parts: _Parts) -> Optional[_Read]:
 
 
 def _read_again(parts: _Parts, before: _Read) -> Optional[_Read]:
-    """An answer of which what has changed is read."""
+    """Reads what has changed in an answer since the one before."""
     bibliography = before.bibliography if parts.bibliography == before.parts.bibliography \
         else _bibliography_in(parts.bibliography)
     old, new, starts = before.parts.citations, parts.citations, before.starts

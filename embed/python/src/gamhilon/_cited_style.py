@@ -132,7 +132,7 @@ class CitedStyle:
                         [_of_page(warned, numbers) for warned in warnings])
 
     def answer_pages(self, pages: Sequence[Asking], nocite: Sequence[str]) -> Answered:
-        """The same of the citations of pages, of which only some have changed since."""
+        """The same of the citations of pages. Those that have changed since are asked anew."""
         asked, again = (None, None) if self.is_note else (
             _parts_of(pages, False, nocite), _parts_of(pages, True, nocite))
         if asked is None or again is None:

@@ -147,7 +147,7 @@ class CitationPart:
 
 
 class CitationParts(Sequence[Citation]):
-    """The citations of a document, in parts of which each is made once for many documents."""
+    """The citations of a document, in parts. Each part is made once for many documents."""
 
     def __init__(self, parts: Sequence[CitationPart]) -> None:
         self._parts = parts
