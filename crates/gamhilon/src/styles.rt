@@ -72,26 +72,22 @@ pub(crate) fn style_of(
             return packaged(rt, name, text);
         }
     }
-    match style_at(rt, path.as_str()) {
-        Ok(
-            ReadStyle {
-                file: StyleFile::Independent(style),
-                text,
-            },
-        ) => Ok(FoundStyle {
+    let read = match style_at(rt, path.as_str()) {
+        Ok(read) => read,
+        Err(CommandError::Unreadable { path, why }) => {
+            return Err(no_style(rt, folder, name, path, why)?);
+        }
+        Err(error) => return Err(error),
+    };
+    let ReadStyle { file, text } = read;
+    match file {
+        StyleFile::Independent(style) => Ok(FoundStyle {
             style,
             language: None,
             path,
             text,
         }),
-        Ok(
-            ReadStyle {
-                file: StyleFile::Dependent(dependent),
-                ..
-            },
-        ) => parent_of(rt, folder, path.as_str(), dependent),
-        Err(CommandError::Unreadable { path, why }) => Err(no_style(rt, folder, name, path, why)?),
-        Err(error) => Err(error),
+        StyleFile::Dependent(dependent) => parent_of(rt, folder, path.as_str(), dependent),
     }
 }
 
@@ -203,35 +199,45 @@ fn parent_of(
         default_locale,
         parent,
     } = dependent;
-    let name = last_part(parent.as_str());
-    let parent = format!(in rt.alloc(); "{folder}/{name}.csl")?;
-    match style_at(rt, parent.as_str()) {
-        Ok(
-            ReadStyle {
-                file: StyleFile::Independent(style),
-                text,
-            },
-        ) => Ok(FoundStyle {
+    let parent = parent_path(rt.alloc(), folder, parent.as_str())?;
+    let read = match style_at(rt, parent.as_str()) {
+        Ok(read) => read,
+        Err(error) => return Err(parent_refused(rt.alloc(), path, error)?),
+    };
+    let ReadStyle { file, text } = read;
+    match file {
+        StyleFile::Independent(style) => Ok(FoundStyle {
             style,
             language: default_locale,
             path: parent,
             text,
         }),
-        Ok(
-            ReadStyle {
-                file: StyleFile::Dependent(_),
-                ..
-            },
-        ) => {
+        StyleFile::Dependent(_) => {
             let why = "it depends on a style itself";
             Err(refused(rt.alloc(), parent.as_str(), &why)?)
         }
-        Err(CommandError::Unreadable { path: parent, why }) => {
+    }
+}
+
+/// Where the style is to which a link leads: in the folder, by the name that ends the link.
+fn parent_path(alloc: Global, folder: &str, link: &str) -> Result<String, AllocError> {
+    let name = last_part(link);
+    format!(in alloc; "{folder}/{name}.csl")
+}
+
+/// The error of the style at a path whose parent ended with this one.
+fn parent_refused(
+    alloc: Global,
+    path: &str,
+    error: CommandError,
+) -> Result<CommandError, AllocError> {
+    match error {
+        CommandError::Unreadable { path: parent, why } => {
             let (parent, why) = (parent.as_str(), why.as_str());
-            let why = format!(in rt.alloc(); "its parent can't be read: {parent}: {why}")?;
-            Err(refused(rt.alloc(), path, &why)?)
+            let why = format!(in alloc; "its parent can't be read: {parent}: {why}")?;
+            refused(alloc, path, &why)
         }
-        Err(error) => Err(error),
+        error => Ok(error),
     }
 }
 
