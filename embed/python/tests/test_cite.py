@@ -179,7 +179,7 @@ def test_limits_of_a_style(cites):
         gamhilon.cite(long, ITEMS, [[{'id': 'a'}]])
     with pytest.raises(gamhilon.StyleLimitExceeded, match='^style:3:1: .* more than 0 steps$'):
         gamhilon.cite(STYLE, ITEMS, [[{'id': 'a'}]], most_steps=0)
-    answer = gamhilon.cite(long, ITEMS, [[{'id': 'b'}]], most_bytes=100001)
+    answer = gamhilon.cite(long, ITEMS, [[{'id': 'b'}]], most_bytes=101000)
     assert gamhilon.plain(answer.citations[0].content) == '(%sB)' % ('x' * 200001)
 
 

@@ -65,7 +65,8 @@ def test_in_bash(place):
     assert offered('gamhilon', 'render', '--') == ['--depth', '--elements', '--help', '--to']
     assert offered('gamhilon', 'cite', '--w') == ['--with-bibliography']
     assert offered('gamhilon', 'bibliography', '--w') == []
-    assert offered('gamhilon', 'cite', '--to', '') == ['html', 'json', 'text']
+    forms = ['html', 'json', 'latex', 'markdown', 'text']
+    assert offered('gamhilon', 'cite', '--to', '') == forms
     assert offered('gamhilon', 'render', '--to', '=', '') == ['json', 'text']
     assert offered('gamhilon', 'render', '--to', '=') == ['json', 'text']
     assert offered('gamhilon', 'render', '--to', '=', 'j') == ['json']

@@ -238,17 +238,23 @@ def test_numbers_of_notes_may_be_given(render):
 
 # Cites
 
+LABELLED = ('<group delimiter=", "><text variable="title"/><group delimiter=" ">'
+            '<label variable="locator" form="short"/>'
+            '<text variable="locator"/></group></group>')
+
+
 def test_locators_have_their_labels(render):
-    layout = ('<group delimiter=", "><text variable="title"/><group delimiter=" ">'
-              '<label variable="locator" form="short"/>'
-              '<text variable="locator"/></group></group>')
     cites = [{'id': 'one', 'locator': '4'}, {'id': 'one', 'locator': '4-6'},
              {'id': 'one', 'locator': '2', 'label': 'chapter'},
              {'id': 'one', 'locator': '7', 'label': 'folio'}, {'id': 'one'}]
-    assert render(layout, [entry('one')], *[[cite] for cite in cites]).citations == [
+    assert render(LABELLED, [entry('one')], *[[cite] for cite in cites]).citations == [
         '(Title one, p. 4)', '(Title one, pp. 4–6)', '(Title one, chap. 2)', '(Title one, fol. 7)',
         '(Title one)']
-    assert render(layout, [entry('one')], cites[:1],
+
+
+def test_locators_have_the_labels_of_the_language(render, published):
+    cites = [{'id': 'one', 'locator': '4'}]
+    assert render(LABELLED, [entry('one')], cites,
                   locale='de-DE').citations == ['(Title one, S. 4)']
 
 
