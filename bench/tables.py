@@ -5,11 +5,11 @@ document.
     bench/tables.py [--program PATH] [--kinds NAME,..] [--runs N]
 
 Makes documents of 1,000 and 4,000 citations of each kind (those of bench.py that users have), and
-has crates/test_tables answer each by layouts (`finish_with` over a layout writer) and by
+has crates/test_calls answer each by layouts (`finish_with` over a layout writer) and by
 `host_driver::drive`, over a table of what the layouts write. Reading, and filling the table, are
 taken off: the time of an answer is a sixth of what seven answers take longer than one, the best of
 --runs runs each. Prints both in milliseconds, their ratio, and by how much the time from the table
-grows from 1,000 to 4,000. Build the program first: (cd crates/test_tables && rt run < stdin).
+grows from 1,000 to 4,000. Build the program first: (cd crates/test_calls && rt run < stdin).
 """
 import argparse
 import json
@@ -44,7 +44,7 @@ def of_one(program, way, document, runs):
 
 def main():
     parser = argparse.ArgumentParser(description=__doc__.split("\n")[0])
-    parser.add_argument("--program", default=str(ROOT / "crates/test_tables/out/test_tables"))
+    parser.add_argument("--program", default=str(ROOT / "crates/test_calls/out/test_calls"))
     parser.add_argument("--kinds", default=",".join(KINDS))
     parser.add_argument("--runs", type=int, default=5)
     asked = parser.parse_args()

@@ -13,13 +13,15 @@ first, and whether that for the bibliography is one for its style alone. A copy 
 to be equal to it. It tells where each document that is refused is wrong, which faults.txt has for
 most of them, and nothing of the others. Where there is a NAME.context, it prints what calls of a
 writing context write in the document's first style, and where there is a NAME.cites, what calls that
-render its entries give. crates/test_tables, which is looked for likewise, answers each document that
-has an answer once more from a table of what its styles write; with any one thing taken out exactly
-that has to be missing, and a table that is empty at first has to be filled in at most three calls
-more than rounds mark, or in the mode `csl` in ten. crates/test_rows, which has cases that no
-document can express, has to say of each that it is as it should be. It refuses each growth of
-memory in turn (refuse.c, for which a C compiler must be there), in all of these programs but the
-last; each such sweep is for some calls, and fails where one of them met no refusal. Without the
+render its entries give, and what these have; where there is a NAME.asked, the answer to requests
+that cite entries of their own, how many renderings it took, and how often these entries were asked;
+where there is a NAME.callers, what callers learn of the answer by laws alone; where there is a
+NAME.data, the answer as JSON. It answers each document that has an answer once more from a table of
+what its styles write; with any one thing taken out exactly that has to be missing, and a table that
+is empty at first has to be filled in at most three calls more than rounds mark, or in the mode `csl`
+in ten. Of values that no document makes it has to say that they are as they should be. This script
+refuses each growth of memory in turn (refuse.c, for which a C compiler must be there), in both
+programs; each such sweep is for some calls, and fails where one of them met no refusal. Without the
 library jsonschema the documents aren't held to the schema: a line says so, and where the
 environment has CI set, it fails.
 run.py PROGRAM FOLDER..: runs it on the documents of these folders, and does nothing else.
@@ -30,7 +32,8 @@ the program. The folders: rows/ whole runs; layouts/ each kind of element; words
 quotes and punctuation; purposes/ what cites are written for; keywords/ each name of a variable,
 term, form and so on; parts/ each kind of object with all its keys; disambiguation/, rounds/,
 grouping/, collapsing/ and bibliography/ how cites and items work together, csl/ how they do in the
-mode `csl`, alone/ citations that stand for themselves, equality/ requests that are equal and others
+mode `csl`, alone/ citations that stand for themselves, equality/ requests that are equal and others,
+calls/ what calls print that no answer shows
 (each with a README.md that tells why a document prints what it does); hostile/ depth; refused/ what
 the program and the schema refuse; beyond_schema/ what the program alone refuses.
 The last line is 'N passed, M failed', and the exit status is 1 where a test failed."""
@@ -58,7 +61,7 @@ LINES = {
     5: b'cite_run: out of memory\n',
 }
 # The files of a document.
-ENDINGS = ('.json', '.txt', '.status', '.account', '.alone', '.passes', '.equality', '.context', '.cites')
+ENDINGS = ('.json', '.txt', '.status', '.account', '.alone', '.passes', '.equality', '.context', '.cites', '.asked', '.callers', '.data')
 SECONDS = 60
 RANDOM_DOCUMENTS = 2000
 # What a fault says of a value, and how deep JSON may nest.
@@ -219,7 +222,7 @@ def tests_of_calls(calls, bases):
             made.append(('account: ' + name_of(base), by_calls, calls, 'account', base, status, read(base + '.account')))
         if os.path.isfile(base + '.alone'):
             made.append(('standalone: ' + name_of(base), by_calls, calls, 'standalone_citation', base, 0, read(base + '.alone')))
-        for way in ('passes', 'equality'):
+        for way in ('passes', 'equality', 'asked', 'callers', 'data'):
             if os.path.isfile(base + '.' + way):
                 made.append((way + ': ' + name_of(base), by_calls, calls, way, base, 0, read(base + '.' + way)))
         if status == 0:
@@ -228,11 +231,11 @@ def tests_of_calls(calls, bases):
     return [*made, ('standalone: ' + name_of(ring), by_calls, calls, 'standalone_citation', ring, 3, b'')]
 
 
-def tests_of_tables(tables, bases):
-    """What crates/test_tables is to do with the documents that have an answer."""
+def tests_of_tables(calls, bases):
+    """What crates/test_calls is to do from a table with the documents that have an answer."""
     # (what is written is kept under the name of a style, and those of equality/ have equal styles of several names)
     named = [it for it in bases if wanted(it)[0] == 0 and os.path.dirname(it) != HERE + '/equality']
-    return [('table: ' + name_of(it), by_calls, tables, 'table', it, 0, wanted(it)[1]) for it in named]
+    return [('table: ' + name_of(it), by_calls, calls, 'table', it, 0, wanted(it)[1]) for it in named]
 
 
 def tests_of_contexts(calls, bases):
@@ -242,36 +245,16 @@ def tests_of_contexts(calls, bases):
     return [('%s: %s' % (way, name_of(it)), by_calls, calls, way, it, 0, read(it + '.' + way)) for way, it in asked]
 
 
-# What crates/test_rows says of a case, and its cases, in the order in which it runs them.
-HOLDS = 'as it should be'
-CASES = """
-pieces_and_marks renders_are_counted initials_of_given_names texts_are_copied lists_are_copied pieces_are_copied
-equal_entries_are_one note_numbers_in_notes cites_are_marked numbers_have_entries hidden_numbers_are_read
-suffixes_have_letters alike_mentions_have_letters writes_at_lent_places years letters small_values
-properties_are_compared means_raise_names locators_differ_by_kind shrinks_at_the_top
-""".split()
+# What crates/test_calls says of values that no document makes, in this order.
+CASES = 'small_values properties_are_compared writes_at_lent_places shrinks_at_the_top'.split()
 
 
-def case(rows, name):
-    """The program of cases says of this one that it is as it should be."""
-    told = dict(it.split(': ', 1) for it in ended(rows)[1].decode().splitlines())
-    if told.get(name) != HOLDS:
-        raise Failed(told.get(name, 'nothing was said of it'))
-
-
-def cases_alone(rows):
-    """It says this of each case once and of nothing else, and ends well."""
-    status, out, error = ended(rows)
-    if (status, error) != (0, b''):
-        raise Failed('status %d, and standard error %r' % (status, shortened(error)))
-    wanted_text = ''.join('%s: %s\n' % (it, HOLDS) for it in CASES).encode()
-    if out != wanted_text:
-        raise Failed(difference(wanted_text, out))
-
-
-def tests_of_cases(rows):
-    """What crates/test_rows is to say."""
-    return [('cases', cases_alone, rows), *(('case: ' + it, case, rows, it) for it in CASES)]
+def cases(calls):
+    """The program says of each case once that it is as it should be, and of nothing else."""
+    status, out, _ = ended(calls, b'cases\n')
+    wanted_text = ''.join('%s: as it should be\n' % it for it in CASES).encode()
+    if (status, out) != (0, wanted_text):
+        raise Failed('status %d\n%s' % (status, difference(wanted_text, out)))
 
 
 def faults_wanted():
@@ -645,9 +628,9 @@ SWEPT_PASSES = {
 }
 # Those that are answered from a table.
 SWEPT_TABLES = ['disambiguation/suffix_by_entry', 'bibliography/author_substitution', 'csl/condition_and_then_a_suffix']
-# Those that render an entry without a driver, and copy an element.
-RENDERING = ['StyleContext::citation', 'date_replacement', 'Elem::clone']
-# Calls of the three programs of calls, which name them before they make them; the status is 5 where one is refused, but for `citation`.
+# Those that render an entry without a driver, copy an element, and read the parts of an entry.
+RENDERING = ['StyleContext::citation', 'date_replacement', 'Elem::clone', 'parts', 'pieces']
+# Calls of crates/test_calls, which names them before it makes them; the status is 5 where one is refused, but for `citation`.
 CALLS = ['read', 'prepare', 'citation', 'finish', 'finish_counted', 'finish_full', 'finish_csl', 'standalone_citation', 'run', 'clone', 'context', 'finish_with', 'drive', 'answer_by']
 CALLS += [*PASSES, *RENDERING]
 # Those that print before others are called.
@@ -783,20 +766,20 @@ def sweeps_of_calls(shim, program):
 
 
 def sweeps_of_tables(shim, program):
-    """Those of crates/test_tables."""
+    """Those of answers from a table."""
     given = {it: read(HERE + '/' + it + '.json') for it in SWEPT_TABLES}
     ways = [('drive 1', ['finish_with', 'drive']), ('fill 1', ['finish_with', 'answer_by'])]
     return [('growths of %s: %s' % (way, it), sweep_of_calls, shim, program, way, swept, given[it], 0, b'')
             for way, swept in ways for it in SWEPT_TABLES]
 
 
-def sweeps(program, calls, tables):
+def sweeps(program, calls):
     """The sweeps of the programs that are built, each with its name."""
     shim = compiled(tempfile.mkdtemp())
     made = [('growths of %s' % it, sweep_of_program, shim, program, it) for it in SWEPT]
-    for sweeps_of in (sweeps_of_calls, sweeps_of_contexts) if calls else ():
+    for sweeps_of in (sweeps_of_calls, sweeps_of_contexts, sweeps_of_tables) if calls else ():
         made += sweeps_of(shim, calls)
-    return made + (sweeps_of_tables(shim, tables) if tables else [])
+    return made
 
 
 def model(program, *mode):
@@ -877,19 +860,18 @@ def main():
     tests = [('model: %d random documents' % RANDOM_DOCUMENTS, model, program)]
     tests.append(('model: %d random documents of the mode csl' % RANDOM_DOCUMENTS, model, program, 'csl'))
     tests += [('process: ' + it.__name__.replace('_', ' '), it, program) for it in reversed(PROCESSES)]
-    calls, tables, rows = (beside(program, it) for it in ('test_calls', 'test_tables', 'test_rows'))
+    calls = beside(program, 'test_calls')
     try:
-        tests += sweeps(program, calls, tables)
+        tests += sweeps(program, calls)
     except Failed as error:
         tests.append(('growths of memory', cannot, str(error)))
     if calls:
-        for tests_of in (tests_of_calls, tests_of_contexts, faults):
+        for tests_of in (tests_of_calls, tests_of_contexts, tests_of_tables, faults):
             tests += tests_of(calls, bases)
+        tests.append(('cases', cases, calls))
         tests += [('process: ' + it.__name__.replace('_', ' '), it, calls) for it in (failing_writer, slow_reader, most_reads)]
     else:
         tests.append(('program of calls', cannot, 'crates/test_calls is not built'))
-    tests += tests_of_tables(tables, bases) if tables else [('program of tables', cannot, 'crates/test_tables is not built')]
-    tests += tests_of_cases(rows) if rows else [('program of cases', cannot, 'crates/test_rows is not built')]
     tests += [(name_of(it), document, program, it) for it in bases]
     tests += [('model: ' + name_of(it), worked, it) for it in [*folders_of(HERE), ROOT + '/examples']]
     tests.append(('files of the folders', strays))

@@ -4,7 +4,6 @@ says what shows it,
 
     shown: PROGRAM WAY DOCUMENT..    the program (as test_calls) in this way of its own, on documents of tests/documents: it
                                      ends by itself, and does not print what each of them must
-    shown: PROGRAM CASE              the case that the program (test_rows) runs by itself, of which it says that it isn't as it should be
 
 where `./test` shows that the tree without the edit prints what it must. `rt try` compiles the
 edited copy of the crates; it proves nothing."""
@@ -19,8 +18,6 @@ from edits import ROOT, edit_of, edited
 DOCUMENTS = ROOT + '/tests/documents'
 # What a document must print is in NAME.WAY, or else in NAME.txt.
 CASE = re.compile(r'case=(\S+) (.*)')
-# What a program of cases says of each.
-TOLD, HOLDS = re.compile(r'^(\w+): (.+)$', re.MULTILINE), 'as it should be'
 
 
 def copied(to, edit):
@@ -63,20 +60,11 @@ def is_noticed_by_documents(copy, program, way, documents):
     return all('run=ended' in told.get(name, []) and 'output=expected' not in told[name] for name in names)
 
 
-def is_noticed_by_case(copy, program, case):
-    """Whether the program runs the case, and says that it isn't as it should be."""
-    said = said_by(copy, program)
-    told = dict(TOLD.findall(said)).get(case)
-    print('%s: %s: %s' % (program, case, told or said))
-    return told not in (None, HOLDS)
-
-
 def is_noticed(key, path):
     """Whether all that an edit names notice it."""
     edit = edit_of(path)
     print('== ' + key, flush=True)
     with tempfile.TemporaryDirectory(prefix='proved-') as copy:
         copied(copy, edit)
-        noticed = [is_noticed_by_documents(copy, program, words[0], words[1:]) if len(words) > 1 else is_noticed_by_case(copy, program, *words)
-                   for program, *words in edit.shown]
+        noticed = [is_noticed_by_documents(copy, program, way, documents) for program, way, *documents in edit.shown]
     return all(noticed)

@@ -1,6 +1,6 @@
 //! Calls of a writing context that no layout makes. What each writes its contract tells; that it
 //! succeeds is seen here.
-ghost use Rattle.std.specs.Prelude.{◌≡◌, IfOk, length};
+ghost use Rattle.std.specs.Prelude.{◌≡◌, length};
 ghost use Rattle.csl_context.specs.WritingState.{state};
 
 use csl_base::elem::ElemChildren;
@@ -25,15 +25,6 @@ type Writing<'a> = Context<'a, InheritableNameOptions, Infallible>;
 struct Parts {
     formula: ChunkedString,
     affixes: Affixes,
-}
-
-/// A context in which nothing is written yet.
-fn begin<'a>(alloc: Global, style: &'a IndependentStyle) -> Result<Writing<'a>, AllocError>
-    ensures { IfOk result (λ context. length (state context.writing).formats ≡ 1) }
-{
-    let options = &style.settings.options;
-    let properties = CiteProperties::for_sorting(None, 0);
-    StyleContext::new(style, None, &[]).ctx(alloc, options, properties, options)
 }
 
 /// A formula, and a pair of brackets.
@@ -102,17 +93,23 @@ fn push_all(alloc: Global, context: &mut Writing<'_>, parts: &Parts) -> bool
     are_children && is_quoted && is_in_affixes
 }
 
-/// The tree of all that.
+/// The tree of all that, written from nothing.
 fn written(
     alloc: Global,
     style: &IndependentStyle,
     parts: &Parts,
 ) -> Result<ElemChildren, AllocError> {
-    let mut context = begin(alloc, style)?;
-    if push_all(alloc, &mut context, parts) {
-        return context.writing.flush();
+    let options = &style.settings.options;
+    let properties = CiteProperties::for_sorting(None, 0);
+    let mut context: Writing<'_> = StyleContext::new(style, None, &[]).ctx(
+        alloc, options, properties, options,
+    )?;
+    let are_pushed = push_all(alloc, &mut context, parts);
+    let tree = context.writing.flush()?;
+    if are_pushed {
+        return Ok(tree);
     }
-    drop(context);
+    drop(tree);
     Err(AllocError)
 }
 

@@ -6,7 +6,7 @@ ghost use Rattle.csl_passes.specs.RendersView.{renders_view};
 ghost use Rattle.csl_writing.specs.ContextSource.{context_source};
 
 use crate::account::print_state;
-use crate::calls::Seen;
+use crate::asking::Seen;
 use crate::rings::ringless;
 use cite_document::error::RunError;
 use csl_base::elem::ElemChildren;

@@ -1,4 +1,0 @@
-//! Styles and entries that tests share.
-#![tactic(auto)]
-
-pub mod styles;
