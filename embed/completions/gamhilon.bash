@@ -54,6 +54,8 @@ _gamhilon() {
         cite:--locales) _gamhilon_offer "$@" folders ;;
         cite:--abbreviations) _gamhilon_offer "$@" files ;;
         cite:--to) _gamhilon_offer "$@" words text html markdown latex json ;;
+        cite:--most-steps) _gamhilon_offer "$@" nothing ;;
+        cite:--most-bytes) _gamhilon_offer "$@" nothing ;;
         cite:--references) _gamhilon_offer "$@" files ;;
         bibliography:--style) _gamhilon_offer "$@" styles ;;
         bibliography:--locale) _gamhilon_offer "$@" nothing ;;
@@ -61,15 +63,17 @@ _gamhilon() {
         bibliography:--locales) _gamhilon_offer "$@" folders ;;
         bibliography:--abbreviations) _gamhilon_offer "$@" files ;;
         bibliography:--to) _gamhilon_offer "$@" words text html markdown latex json ;;
+        bibliography:--most-steps) _gamhilon_offer "$@" nothing ;;
+        bibliography:--most-bytes) _gamhilon_offer "$@" nothing ;;
         bibliography:--references) _gamhilon_offer "$@" files ;;
         render:--to) _gamhilon_offer "$@" words text json ;;
         render:--depth) _gamhilon_offer "$@" nothing ;;
         render:--elements) _gamhilon_offer "$@" nothing ;;
         *)
             case $command:$current in
-                cite:-*) _gamhilon_offer "$@" words --style --locale --styles --locales --abbreviations --to --standalone --nocite --references --link-citations --with-bibliography -h --help ;;
+                cite:-*) _gamhilon_offer "$@" words --style --locale --styles --locales --abbreviations --to --standalone --nocite --most-steps --most-bytes --references --link-citations --with-bibliography -h --help ;;
                 cite:*) _gamhilon_offer "$@" files ;;
-                bibliography:-*) _gamhilon_offer "$@" words --style --locale --styles --locales --abbreviations --to --standalone --nocite --references -h --help ;;
+                bibliography:-*) _gamhilon_offer "$@" words --style --locale --styles --locales --abbreviations --to --standalone --nocite --most-steps --most-bytes --references -h --help ;;
                 bibliography:*) _gamhilon_offer "$@" files ;;
                 render:-*) _gamhilon_offer "$@" words --to --depth --elements -h --help ;;
                 render:*) _gamhilon_offer "$@" files ;;

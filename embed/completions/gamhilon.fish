@@ -35,6 +35,8 @@ complete -c gamhilon -n '__fish_seen_subcommand_from cite' -l abbreviations -r -
 complete -c gamhilon -n '__fish_seen_subcommand_from cite' -l to -x -a 'text html markdown latex json' -d 'The form of what is written (text)'
 complete -c gamhilon -n '__fish_seen_subcommand_from cite' -l standalone -d 'A whole page of HTML'
 complete -c gamhilon -n '__fish_seen_subcommand_from cite' -l nocite -d 'References that aren\'t cited are listed, too'
+complete -c gamhilon -n '__fish_seen_subcommand_from cite' -l most-steps -x -d 'How many steps the style may take for each cite and each item (5000)'
+complete -c gamhilon -n '__fish_seen_subcommand_from cite' -l most-bytes -x -d 'How many bytes the style may write for each cite and each item (100000)'
 complete -c gamhilon -n '__fish_seen_subcommand_from cite' -l references -r -F -d 'More references; it may stand several times'
 complete -c gamhilon -n '__fish_seen_subcommand_from cite' -l link-citations -d 'Cites lead to their items, in HTML, Markdown and LaTeX'
 complete -c gamhilon -n '__fish_seen_subcommand_from cite' -l with-bibliography -d 'The bibliography follows the citations'
@@ -48,6 +50,8 @@ complete -c gamhilon -n '__fish_seen_subcommand_from bibliography' -l abbreviati
 complete -c gamhilon -n '__fish_seen_subcommand_from bibliography' -l to -x -a 'text html markdown latex json' -d 'The form of what is written (text)'
 complete -c gamhilon -n '__fish_seen_subcommand_from bibliography' -l standalone -d 'A whole page of HTML'
 complete -c gamhilon -n '__fish_seen_subcommand_from bibliography' -l nocite -d 'References that aren\'t cited are listed, too'
+complete -c gamhilon -n '__fish_seen_subcommand_from bibliography' -l most-steps -x -d 'How many steps the style may take for each cite and each item (5000)'
+complete -c gamhilon -n '__fish_seen_subcommand_from bibliography' -l most-bytes -x -d 'How many bytes the style may write for each cite and each item (100000)'
 complete -c gamhilon -n '__fish_seen_subcommand_from bibliography' -l references -r -F -d 'More references; it may stand several times'
 complete -c gamhilon -n '__fish_seen_subcommand_from bibliography' -s h -l help -d 'Print help'
 complete -c gamhilon -n '__fish_seen_subcommand_from bibliography' -F
