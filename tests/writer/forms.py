@@ -107,6 +107,8 @@ def try_document(program, document, path):
 
 FORMATS = {'Emph': 'italic', 'Strong': 'bold', 'SmallCaps': 'small capitals', 'Underline': 'underlined', 'Superscript': 'above',
            'Subscript': 'below'}
+# What pandoc doesn't read of the style of a span, as HTML has it.
+UNREAD = {'underlined'}
 TAGS = {'em': 'italic', 'strong': 'bold', 'u': 'underlined', 'sup': 'above', 'sub': 'below', 'span': 'small capitals'}
 QUOTES = {'DoubleQuote': '“”', 'SingleQuote': '‘’'}
 # Commands of LaTeX's kernel that pandoc 2.17 doesn't read, and what it reads as the same.
@@ -154,7 +156,7 @@ def shown(block):
     kept = [(' ', frozenset())]
     for letter, formats in letters_of(block['c']):
         if not letter.isspace():
-            kept.append(('’' if letter == "'" else letter, formats))
+            kept.append(('’' if letter == "'" else letter, formats - UNREAD))
         elif kept[-1][0] != ' ':
             kept.append((' ', frozenset()))
     return kept[1:-1] if kept[-1][0] == ' ' else kept[1:]

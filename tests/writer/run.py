@@ -71,7 +71,9 @@ def texts_of(program, folder, case):
     written(folder, {'s.csl': case.style, 'r.json': json.dumps(case.references), 'c.json': json.dumps(case.citations)})
     verb, files = ('bibliography', ['r.json']) if case.citations is None else ('cite', ['r.json', 'c.json'])
     status, out, error = ended(program, verb, '--style', 's.csl', '--to', case.to, *files, cwd=folder)
-    if status or any(': warning: ' not in line for line in error.splitlines()) or bool(error) != case.warns:
+    # No case needs the words of a locale file, which only some machines have.
+    lines = [line for line in error.splitlines() if ': warning: no locale file of ' not in line]
+    if status or any(': warning: ' not in line for line in lines) or bool(lines) != case.warns:
         raise Failed('status %d, %s' % (status, error.strip()))
     # Two ways to write a character in HTML.
     return out.replace('&#38;', '&amp;').replace('&#60;', '&lt;').splitlines()
