@@ -211,9 +211,9 @@ uint32_t gamhilon_find_cite_fault(const uint8_t *style, size_t style_length,
  *
  * The rest of this section is about documents. */
 
-/* Tells whether each layout of each style of the document is within limits: whether its elements
- * nest no deeper than `depth`, and are no more than `elements`. It renders nothing, and stops at
- * the first element that is too deep or too many.
+/* Checks that each layout of each style of the document is within limits: that its elements nest
+ * no deeper than `depth`, and are no more than `elements`. It renders nothing, and stops at the
+ * first element that is too deep or too many.
  *
  * Macros make much work of a small document: a chain of them takes more stack the longer it is, and
  * 24 macros that each call the next one twice and write, in 3 KB, would take gigabytes. The other
