@@ -401,6 +401,53 @@ def chain_of_macros(program):
         hold(ended(program, given), 0, text)
 
 
+def seconds(program, given, text):
+    """The processor time of a process, without that of the system, which prints this text."""
+    with tempfile.TemporaryFile() as document, tempfile.TemporaryFile() as out:
+        document.write(given)
+        document.seek(0)
+        process = subprocess.Popen([program], stdin=document, stdout=out)
+        _, status, used = os.wait4(process.pid, 0)
+        process.returncode = os.waitstatus_to_exitcode(status)
+        out.seek(0)
+        hold((process.returncode, out.read(), b''), 0, text)
+        return used.ru_utime
+
+
+def held_even(program, name, made):
+    """Four times as much takes about four times as long."""
+    small, large = made(5000), made(20000)
+    if not grows_evenly(name, lambda it: seconds(program, *it), small, large, 0.1):
+        raise Failed('more than about four times as long')
+
+
+def keys_that_collide(program):
+    """Entries whose keys have one hash, and a cite of each."""
+    def made(count):
+        keys = colliding(count)
+        given, text = many_cites(count)
+        document = json.loads(given)
+        for entry, request, key in zip(document['entries'], document['requests'], keys):
+            entry['key'] = request['items'][0]['entry'] = key
+        cites, listed = text.decode().split('\n\n')
+        listed = ''.join('%s\t[%d]\n' % (key, at + 1) for at, key in enumerate(keys))
+        return json.dumps(document).encode(), ('%s\n\n%s' % (cites, listed)).encode()
+
+    held_even(program, 'keys that collide', made)
+
+
+def macros_whose_names_collide(program):
+    """Macros whose names have one hash, and a call of each; the second half of them gives nothing."""
+    def made(count):
+        names = colliding(count)
+        children = [[{'kind': 'text', 'value': 'a'}]] * (count // 2) + [[{'kind': 'text', 'variable': 'title'}]] * (count // 2)
+        macros = [{'name': name, 'children': it} for name, it in zip(names, children)]
+        calls = [{'kind': 'text', 'macro': name} for name in names]
+        return of_style({'citation': {'elements': calls}, 'macros': macros}, 'a' * (count // 2))
+
+    held_even(program, 'macros whose names collide', made)
+
+
 def inside_many_lists(program):
     for depth in (127, 128, 100000):
         hold(ended(program, b'[' * depth + one_cite()[0] + b']' * depth), 2)

@@ -1,4 +1,4 @@
-//! Callers that rely on the laws of an answer in which works are told apart as CSL 1.0.2 has it,
+//! Callers that rely on the laws of an answer in which works are disambiguated as CSL 1.0.2 has it,
 //! and on nothing that says how it is made.
 ghost use Rattle.std.specs.Prelude.{◌≡◌, ◌||◌, IfOk, true};
 ghost use Rattle.csl_assembly.specs.declared.rendered.Rendered.{Rendered};

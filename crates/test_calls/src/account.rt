@@ -40,8 +40,8 @@ pub(crate) fn print_state(rt: &impl Print, state: &DisambiguateState) {
     }
 }
 
-/// Prints the renderings and the rounds, and of each entry its key, its number and by what it is
-/// told apart.
+/// Prints the renderings and the rounds, and of each entry its key, its number and what
+/// disambiguates it.
 pub fn print_account(rt: &impl Print, account: &Account<'_, PlainEntry>) {
     let _ = println!(rt; "renders {}, rounds {}", account.renders, account.rounds);
     for (place, entry) in account.entries.iter().enumerate() {
@@ -56,7 +56,7 @@ pub fn print_account(rt: &impl Print, account: &Account<'_, PlainEntry>) {
     }
 }
 
-/// Prints by what a mention is told apart.
+/// Prints what disambiguates a mention.
 fn print_mention(rt: &impl Print, state: &MentionState) {
     match (&state.names, state.chosen) {
         (Some(names), true) => {
@@ -85,8 +85,8 @@ fn print_suffix(rt: &impl Print, suffix: &Option<usize>) {
     }
 }
 
-/// Prints the renderings and the rounds, and of each entry its key, its number, by what its
-/// mentions are told apart, and its suffix.
+/// Prints the renderings and the rounds, and of each entry its key, its number, what
+/// disambiguates its mentions, and its suffix.
 pub fn print_csl_account(rt: &impl Print, account: &CslAccount<'_, PlainEntry>) {
     let _ = println!(rt; "renders {}, rounds {}", account.renders, account.rounds);
     for (place, entry) in account.entries.iter().enumerate() {
@@ -105,7 +105,7 @@ pub fn print_csl_account(rt: &impl Print, account: &CslAccount<'_, PlainEntry>) 
     }
 }
 
-/// Prints why there is no answer, but for want of memory.
+/// Prints why there is no answer, but for lack of memory.
 pub fn print_refusal(rt: &impl Print, error: &DriverError) {
     match error {
         DriverError::MacroRing {

@@ -10,7 +10,6 @@ use crate::costs::{Answer, Costs, cost_the_same, finished_with, in_csl, in_round
 use crate::filling::{drive_to_the_end, fill_from};
 use crate::hosting::host_styles;
 use crate::printing::print_answer;
-use crate::recording::Recorder;
 use crate::taking::take_each_out;
 use crate::ways::TableWay;
 use cite_document::document::Document;
@@ -28,6 +27,7 @@ use json_document::rounds::Rounds;
 use json_styles::styles::NamedStyle;
 use std::alloc::{AllocError, Global};
 use std::convert::Infallible;
+use test_recorder::recorder::Recorder;
 
 /// Answers it by the layouts; what they write goes into a table, from which it is answered then.
 pub fn by_table<'a, 'e: 'a>(

@@ -1,5 +1,5 @@
-//! Calls of a writing context that no layout makes. What each writes its contract tells; that it
-//! succeeds is seen here.
+//! Calls of a writing context that no layout makes. The contract of each says what it writes; that
+//! it succeeds is seen here.
 ghost use Rattle.std.specs.Prelude.{◌≡◌, length};
 ghost use Rattle.csl_context.specs.WritingState.{state};
 

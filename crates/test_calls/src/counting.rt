@@ -25,7 +25,7 @@ use std::convert::Infallible;
 
 /// An entry that counts how often it is asked for anything.
 #[derive(Drop)]
-#[derive_where(PartialEq, Eq, Hash)]
+#[derive_where(PartialEq, Eq, PartialOrd, Ord, Hash)]
 struct Counting {
     plain: PlainEntry,
     #[derive_where(skip)]
@@ -113,7 +113,7 @@ fn copies(alloc: Global, text: &str) -> Result<Vec<Counting>, RunError> {
     Ok(unasked(alloc, entries?)?)
 }
 
-/// These entries, of which nothing was asked.
+/// These entries, before anything was asked of them.
 fn unasked(alloc: Global, entries: Vec<PlainEntry>) -> Result<Vec<Counting>, AllocError> {
     let mut unasked = Vec::new(alloc);
     for plain in entries {

@@ -4,7 +4,6 @@
 use crate::asking::{Asking, Driver, Seen};
 use crate::by_table::driven;
 use crate::costs::{Answer, calls_at_most, cost_the_same, has_account, has_csl_account};
-use crate::recording::{put_in, tree_alone};
 use cite_document::error::RunError;
 use csl_base::elem::ElemChildren;
 use csl_base::entry::PlainEntry;
@@ -19,6 +18,7 @@ use host_memo::table::{Table, copied};
 use indexmap::{IndexMap, IndexSet};
 use json_document::rounds::Rounds;
 use std::alloc::{AllocError, Global};
+use test_recorder::recorder::{put_in, tree_alone};
 
 /// Writes what a table has, and an empty tree for the rest; it counts how often it is asked.
 #[derive(Drop)]

@@ -28,7 +28,6 @@ mod filling;
 mod hosting;
 mod passes;
 mod printing;
-mod recording;
 mod rings;
 mod running;
 mod streams;

@@ -2,7 +2,6 @@
 
 use crate::asking::{Asking, Seen};
 use crate::by_table::driven;
-use crate::recording::put_in;
 use cite_document::error::RunError;
 use csl_lookup::state::IbidState;
 use host_driver::drive::Driven;
@@ -11,6 +10,7 @@ use host_memo::table::Table;
 use indexmap::IndexSet;
 use json_document::rounds::Rounds;
 use std::alloc::Global;
+use test_recorder::recorder::put_in;
 
 /// Takes each thing out of the table in turn: exactly that has to be missing, and in the mode `csl`
 /// perhaps cites that repeat others.

@@ -1,4 +1,4 @@
-//! Answers that wrong bodies give, of which the laws are false.
+//! Answers that wrong bodies give. The laws are false of them.
 //!
 //! For each body that does something wrong there is a small input, the answer of the body on it,
 //! written down as plain data, and a function whose clause `refuted` says that the law is false of

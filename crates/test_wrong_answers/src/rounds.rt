@@ -43,8 +43,8 @@ pub fn state_on_every_entry()
     nothing_is_left::<Sample, u64>();
 }
 
-/// In one round a choice tells an entry apart in one group, and names do in the next group, which
-/// are written over the choice: the choice is the greater one, and is to stay.
+/// In one round a choice disambiguates an entry in one group, and names do in the next group. The
+/// names are written over the choice: the choice is the greater one, and is to stay.
 pub fn later_mark_overwrites()
     ensures refuted { ¬ StatesGoOn RoundMode.Three same_sample writing in_two_groups
         overwritten_at_once }

@@ -2,8 +2,8 @@
 use csl_base::entry::{ChunkedString, Date, EntryLike, Person};
 use csl_base::taxonomy::{DateVariable, NameVariable, NumberVariable, StandardVariable};
 
-/// An entry that is told by its number.
-#[derive(Clone, Copy, PartialEq, Eq, Hash)]
+/// An entry that is identified by its number.
+#[derive(Clone, Copy, PartialEq, Eq, PartialOrd, Ord, Hash)]
 pub struct Sample {
     pub number: u8,
 }
