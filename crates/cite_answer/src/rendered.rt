@@ -1,10 +1,8 @@
 //! Answers with the driver's trees.
 use cite_host::answer::{Answer, ListedItem};
 use cite_host::cites::Citation;
-use cite_pieces::formatting::TextFormatting;
-use cite_pieces::marked::with_marks;
 use cite_pieces::pieces::Pieces;
-use cite_trees::trees::tree_of;
+use cite_trees::shown::shown_tree;
 use csl_assembly::rendered::{BibliographyItem, Rendered, RenderedBibliography, RenderedCitation};
 use csl_base::elem::{Elem, ElemChild, ElemChildren};
 use csl_base::seq::Seq;
@@ -58,18 +56,6 @@ fn note_of(style: &CslStyle, citations: &[Citation], place: usize) -> Option<usi
         None => None,
     };
     Some(told.unwrap_or(place.saturating_add(1)))
-}
-
-/// The tree of a stream, whose texts are joined where they have the same formatting.
-fn shown_tree(
-    alloc: Global,
-    pieces: &Pieces,
-    marks: QuoteMarks<'_>,
-) -> Result<ElemChildren, AllocError> {
-    let stream = with_marks(alloc, pieces, marks)?;
-    let mut children = tree_of(alloc, stream, TextFormatting::NORMAL, &[])?;
-    children.simplify_children()?;
-    Ok(children)
 }
 
 /// The node of a stream.

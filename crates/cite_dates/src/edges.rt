@@ -9,7 +9,7 @@ pub(crate) enum Edge {
     Dropped,
 }
 
-/// The two ends of some parts, and what stands behind the year in them.
+/// The two ends of some parts, and what follows the year in them.
 #[derive(Clone, Copy)]
 pub(crate) struct Ends<'o> {
     pub first: Edge,

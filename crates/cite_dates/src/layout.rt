@@ -57,10 +57,10 @@ pub struct DateLayout<'s> {
     pub is_localized: bool,
 }
 
-/// What stands between the dates of a range where nothing is told.
+/// What stands between the dates of a range where no delimiter is given.
 pub const RANGE_DELIMITER: &str = "–";
 
-/// Formatting of which nothing is asked for.
+/// Formatting that asks for nothing.
 const NOTHING_ASKED: Formatting = Formatting {
     font_style: None,
     font_variant: None,
@@ -168,7 +168,7 @@ fn part_layout(part: &DatePart) -> PartLayout<'_> {
     }
 }
 
-/// The form that a part tells, or else the default.
+/// The form that a part asks for, or else the default.
 fn form_of(name: DatePartName) -> PartForm {
     match name {
         DatePartName::Day(form) => PartForm::Day(form.unwrap_or(DayForm::Numeric)),

@@ -3,8 +3,8 @@ use csl_references::date::{Date, DateSpan, PartialDate, YearPart};
 use std::alloc::{AllocError, Global};
 
 /// A date by so many of its parts: 1 for the year alone, 3 for year, month and day. Texts of
-/// dates are in the order of the dates; a range has its last date behind its first. Of a date that
-/// only a literal tells nothing is known.
+/// dates are in the order of the dates; a range has its last date after its first. Nothing is known
+/// of a date that has only a literal.
 ///
 /// # Errors
 ///

@@ -15,7 +15,7 @@ use style_file::date;
 pub struct DateOptions<'o> {
     /// What the date is marked as.
     pub mark: Option<Mark>,
-    /// What stands behind the year, marked as the year suffix.
+    /// What follows the year, marked as the year suffix.
     pub year_suffix: Option<&'o str>,
 }
 
@@ -52,7 +52,7 @@ pub fn push_date<'s>(
     Ok(())
 }
 
-/// Writes the text of a date, and what stands behind its year.
+/// Writes the text of a date, and what follows its year.
 fn push_literal(
     output: &mut Output<'_>,
     literal: &str,
@@ -225,7 +225,7 @@ fn written_parts<'s>(
     Ok(written)
 }
 
-/// Writes a part, and what stands behind the year.
+/// Writes a part, and what follows the year.
 fn push_part<'s>(
     output: &mut Output<'s>,
     part: &WrittenPart<'s>,

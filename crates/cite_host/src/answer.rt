@@ -110,7 +110,7 @@ impl<'d> Document<'d> {
         let items = Items::in_order(alloc, setting, cited)?;
         let citations = sorted_citations(alloc, setting, &items, self.citations)?;
         let rendered = self.rendered(alloc, setting, &items, &citations)?;
-        self.finished(alloc, &rendered, &citations)
+        self.finished(alloc, &rendered, &items, &citations)
     }
 
     /// What the driver answers, in a style of its own.
@@ -142,6 +142,7 @@ impl<'d> Document<'d> {
         &self,
         alloc: Global,
         rendered: &Rendered,
+        items: &Items<'d>,
         sorted: &[SortedCitation<'d>],
     ) -> Result<Answer, AnswerError> {
         let mut citations = Vec::new(alloc);
@@ -152,7 +153,9 @@ impl<'d> Document<'d> {
             }
         }
         let bibliography = match &rendered.bibliography {
-            Some(bibliography) if self.lists_items => Some(self.listed(alloc, bibliography)?),
+            Some(bibliography) if self.lists_items => {
+                Some(self.listed(alloc, bibliography, items)?)
+            }
             _ => None,
         };
         Ok(Answer {
@@ -209,19 +212,22 @@ impl<'d> Document<'d> {
         &self,
         alloc: Global,
         bibliography: &RenderedBibliography,
+        items: &Items<'d>,
     ) -> Result<Vec<ListedItem>, AllocError> {
         let in_quotes = self.locale.has_punctuation_in_quotes();
         let mut listed = Vec::new(alloc);
         for item in bibliography.items.as_slice() {
-            listed.push(listed_item(alloc, item, in_quotes)?)?;
+            let id = items.keyed_id(item.key.as_str()).unwrap_or("");
+            listed.push(listed_item(alloc, id, item, in_quotes)?)?;
         }
         Ok(listed)
     }
 }
 
-/// An item as streams.
+/// The item of this id, as streams.
 fn listed_item(
     alloc: Global,
+    id: &str,
     item: &BibliographyItem,
     in_quotes: bool,
 ) -> Result<ListedItem, AllocError> {
@@ -234,7 +240,7 @@ fn listed_item(
     };
     let content = stream_of(alloc, &item.content)?;
     Ok(ListedItem {
-        id: String::from_str(alloc, item.key.as_str())?,
+        id: String::from_str(alloc, id)?,
         first_field,
         content: punctuated(alloc, content, in_quotes)?,
     })

@@ -5,13 +5,13 @@ use crate::facts::first_cite;
 use crate::programs::BibliographyProgram;
 use crate::setting::Setting;
 use cite_limits::error::LimitError;
-use cite_sorting::order::sorted_places;
+use cite_sorting::order::sorted_indexes;
 use csl_base::entry::PlainEntry;
 use csl_base::seq::Seq;
 use csl_base::text::Text;
 use csl_references::reference::{Reference, References};
-use indexmap::{IndexMap, IndexSet};
 use std::alloc::{AllocError, Global};
+use std::collections::{BTreeMap, BTreeSet};
 
 /// The items that are cited, in the order of the bibliography.
 #[derive(Drop)]
@@ -20,7 +20,7 @@ pub(crate) struct Items<'d> {
     /// At the same places, what the driver knows of them.
     pub entries: Vec<PlainEntry>,
     /// The places, by the ids.
-    places: IndexMap<String, usize>,
+    places: BTreeMap<String, usize>,
 }
 
 impl<'d> Items<'d> {
@@ -46,9 +46,9 @@ impl<'d> Items<'d> {
         references: Vec<&'d Reference>,
     ) -> Result<Items<'d>, AllocError> {
         let mut entries = Vec::new(alloc);
-        let mut places = IndexMap::new(alloc);
+        let mut places = BTreeMap::new(alloc);
         for (place, reference) in references.iter().enumerate() {
-            entries.push(entry_of(alloc, *reference)?)?;
+            entries.push(entry_of(alloc, place)?)?;
             places.insert(reference.id.clone()?, place)?;
         }
         Ok(Items {
@@ -61,6 +61,17 @@ impl<'d> Items<'d> {
     /// The place of the item with this id.
     pub fn place(&self, id: &str) -> Option<usize> {
         self.places.get(id).copied()
+    }
+
+    /// The place of the item that the driver knows by this key.
+    pub fn keyed_place(&self, key: &str) -> Option<usize> {
+        key.parse::<usize>().ok()
+    }
+
+    /// The id of the item that the driver knows by this key.
+    pub fn keyed_id(&self, key: &str) -> Option<&'d str> {
+        let reference = self.reference(self.keyed_place(key)?)?;
+        Some(reference.id.as_str())
     }
 
     /// The item at this place.
@@ -79,7 +90,7 @@ pub(crate) fn cited_references<'d>(
     references: &'d References,
     citations: &[Citation],
 ) -> Result<Vec<&'d Reference>, AnswerError> {
-    let mut seen = IndexSet::new(alloc);
+    let mut seen = BTreeSet::new(alloc);
     let mut found = Vec::new(alloc);
     for (citation, cited) in citations.iter().enumerate() {
         for cite in &cited.cites {
@@ -110,7 +121,7 @@ fn in_order<'s, 'd>(
         cites.push(first_cite(*reference, None, place.saturating_add(1)))?;
     }
     let scene = setting.item_keys(bibliography);
-    let places = sorted_places(alloc, scene, bibliography.keys.as_slice(), cites.as_slice())?;
+    let places = sorted_indexes(alloc, scene, bibliography.keys.as_slice(), cites.as_slice())?;
     let mut ordered = Vec::new(alloc);
     for place in places {
         if let Some(reference) = cited.get(place) {
@@ -120,10 +131,12 @@ fn in_order<'s, 'd>(
     Ok(ordered)
 }
 
-/// What the driver knows of an item: its id.
-fn entry_of(alloc: Global, reference: &Reference) -> Result<PlainEntry, AllocError> {
+/// What the driver knows of an item: the number of its place. Keys of anyone's choice could be made
+/// to have one hash.
+fn entry_of(alloc: Global, place: usize) -> Result<PlainEntry, AllocError> {
+    let key = format!(in alloc; "{place}")?;
     Ok(PlainEntry {
-        key: Text::copied(alloc, reference.id.as_str())?,
+        key: Text::copied(alloc, key.as_str())?,
         label: None,
         names: Seq::new(Vec::new(alloc)),
         dates: Seq::new(Vec::new(alloc)),

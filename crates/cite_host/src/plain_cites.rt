@@ -13,7 +13,7 @@ use std::alloc::{AllocError, Global};
 use style_file::style::StyleClass;
 
 /// All that the text of a cite depends on that has no locator, and stands apart from none.
-#[derive(PartialEq, Eq, Hash, Drop)]
+#[derive(PartialEq, Eq, PartialOrd, Ord, Drop)]
 pub(crate) struct PlainCite {
     /// The place of its item.
     item: usize,
@@ -29,7 +29,7 @@ pub(crate) struct PlainCite {
 }
 
 /// Where a cite follows others, as far as its style asks.
-#[derive(Clone, Copy, PartialEq, Eq, Hash)]
+#[derive(Clone, Copy, PartialEq, Eq, PartialOrd, Ord)]
 struct CiteStanding {
     is_first: bool,
     is_near_note: bool,

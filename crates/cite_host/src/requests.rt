@@ -2,6 +2,7 @@
 use crate::cites::Cite;
 use crate::entries::Items;
 use crate::sorting::SortedCitation;
+use cite_walk::cite::CiteLocator;
 use csl_base::entry::PlainEntry;
 use csl_base::style::IndependentStyle;
 use csl_base::taxonomy::Locator;
@@ -10,65 +11,50 @@ use csl_driver::item::CitationItem;
 use csl_driver::locator::{LocatorPayload, SpecificLocator};
 use csl_driver::purpose::CitePurpose;
 use csl_driver::request::{BibliographyRequest, CitationRequest, Order};
-use csl_vocabulary::locator::LocatorType;
 use std::alloc::{AllocError, Global};
+use std::collections::BTreeMap;
 use std::convert::Infallible;
 
 /// The driver of a host's documents.
 pub(crate) type Driver<'e> = BibliographyDriver<'e, PlainEntry, Infallible>;
 
-/// The locators of the cites of each citation, as the driver compares them.
-pub(crate) type DrivenLocators = Vec<Vec<Option<(Locator, String)>>>;
+/// The locators of the cites of each citation, as the driver compares them: by numbers, and equal
+/// ones have one.
+pub(crate) type DrivenLocators = Vec<Vec<Option<String>>>;
 
 /// The locators of these citations.
 pub(crate) fn locators_of(
     alloc: Global,
     citations: &[SortedCitation<'_>],
 ) -> Result<DrivenLocators, AllocError> {
+    let mut numbers = BTreeMap::new(alloc);
     let mut all = Vec::new(alloc);
     for citation in citations {
         let mut locators = Vec::new(alloc);
         for cite in &citation.cites {
-            locators.push(locator_of(alloc, cite)?)?;
+            let locator = match &cite.locator {
+                Some(locator) => Some(numbered(alloc, &mut numbers, locator)?),
+                None => None,
+            };
+            locators.push(locator)?;
         }
         all.push(locators)?;
     }
     Ok(all)
 }
 
-fn locator_of(alloc: Global, cite: &Cite) -> Result<Option<(Locator, String)>, AllocError> {
-    let Some(locator) = &cite.locator else {
-        return Ok(None);
-    };
-    let text = locator.text.plain(alloc)?;
-    Ok(Some(match known_kind(locator.kind) {
-        Some(kind) => (kind, text),
-        None => {
-            let mut named = String::from_str(alloc, locator.kind.name())?;
-            named.push(' ')?;
-            named.push_str(text.as_str())?;
-            (Locator::Custom, named)
-        }
-    }))
-}
-
-/// The kind of a locator, where the driver knows it.
-fn known_kind(kind: LocatorType) -> Option<Locator> {
-    match kind {
-        LocatorType::Book => Some(Locator::Book),
-        LocatorType::Chapter => Some(Locator::Chapter),
-        LocatorType::Figure => Some(Locator::Figure),
-        LocatorType::Line => Some(Locator::Line),
-        LocatorType::Note => Some(Locator::Note),
-        LocatorType::Page => Some(Locator::Page),
-        LocatorType::Paragraph => Some(Locator::Paragraph),
-        LocatorType::Part => Some(Locator::Part),
-        LocatorType::Section => Some(Locator::Section),
-        LocatorType::Supplement => Some(Locator::Supplement),
-        LocatorType::Verse => Some(Locator::Verse),
-        LocatorType::Volume => Some(Locator::Volume),
-        _ => None,
-    }
+/// The number of a locator, by its kind and its text.
+fn numbered(
+    alloc: Global,
+    numbers: &mut BTreeMap<String, usize>,
+    locator: &CiteLocator,
+) -> Result<String, AllocError> {
+    let mut named = String::from_str(alloc, locator.kind.name())?;
+    named.push(' ')?;
+    named.push_str(locator.text.plain(alloc)?.as_str())?;
+    let next = numbers.len();
+    let number = *numbers.entry(named)?.or_insert(next);
+    format!(in alloc; "{number}")
 }
 
 /// A driver that has taken the citations.
@@ -95,7 +81,7 @@ fn cites_of<'e>(
     alloc: Global,
     items: &'e Items<'_>,
     citation: &SortedCitation<'_>,
-    locators: &'e [Option<(Locator, String)>],
+    locators: &'e [Option<String>],
 ) -> Result<Vec<CitationItem<'e, PlainEntry, Infallible>>, AllocError> {
     let mut cites = Vec::new(alloc);
     for (cite, locator) in citation.cites.iter().zip(locators) {
@@ -122,10 +108,13 @@ fn order_of<'o, 'e>(entries: &'o [&'e PlainEntry]) -> Option<Order<'o, 'e, Plain
 fn item_of<'e>(
     cite: &Cite,
     entry: &'e PlainEntry,
-    locator: &'e Option<(Locator, String)>,
+    locator: &'e Option<String>,
 ) -> CitationItem<'e, PlainEntry, Infallible> {
     let locator = match locator {
-        Some((kind, text)) => Some(SpecificLocator(*kind, LocatorPayload::Str(text.as_str()))),
+        Some(number) => {
+            let payload = LocatorPayload::Str(number.as_str());
+            Some(SpecificLocator(Locator::Custom, payload))
+        }
         None => None,
     };
     let purpose = if cite.is_author_only {

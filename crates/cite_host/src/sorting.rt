@@ -5,7 +5,7 @@ use crate::facts::first_cite;
 use crate::setting::Setting;
 use cite_limits::error::LimitError;
 use cite_sorting::keys::Key;
-use cite_sorting::order::{sorted_places, tied_places};
+use cite_sorting::order::{sorted_indexes, tied_indexes};
 use indexmap::IndexSet;
 use std::alloc::{AllocError, Global};
 
@@ -92,7 +92,7 @@ fn item_ranks(
             facts.push(first_cite(reference, None, item.saturating_add(1)))?;
         }
     }
-    let ties = tied_places(alloc, setting.cite_keys(), keys, facts.as_slice())?;
+    let ties = tied_indexes(alloc, setting.cite_keys(), keys, facts.as_slice())?;
     for (rank, tied) in ties.iter().enumerate() {
         for place in tied {
             if let Some(item) = compared.get(*place) {
@@ -184,7 +184,7 @@ fn places_by_keys<'s>(
             facts.push(first_cite(reference, cite.locator.as_ref(), number))?;
         }
     }
-    sorted_places(alloc, setting.cite_keys(), keys, facts.as_slice())
+    sorted_indexes(alloc, setting.cite_keys(), keys, facts.as_slice())
 }
 
 /// The cites at these places of a citation.

@@ -25,8 +25,8 @@ use csl_writers::cite as driver;
 use host_memo::key::{Standing, TaskKey, TaskPart};
 use host_memo::source::Source;
 use host_memo::table::copied;
-use indexmap::IndexMap;
 use std::alloc::{AllocError, Global};
+use std::collections::BTreeMap;
 use std::mem::replace;
 use style_file::sections::Layout;
 use style_file::style::StyleClass;
@@ -41,9 +41,9 @@ pub(crate) struct TaskWriter<'s, 'i, 'd> {
     /// Whether the items of the bibliography are wanted.
     lists_items: bool,
     /// What was written of plain cites that are compared.
-    compared_cites: IndexMap<PlainCite, KnownCite>,
+    compared_cites: BTreeMap<PlainCite, KnownCite>,
     /// What was written of plain cites that are shown.
-    shown_cites: IndexMap<PlainCite, KnownCite>,
+    shown_cites: BTreeMap<PlainCite, KnownCite>,
 }
 
 /// What marks the first field of an item as a whole: the driver sets apart what is marked first.
@@ -65,7 +65,7 @@ impl<'s, 'i, 'd> Source for TaskWriter<'s, 'i, 'd> {
     type Error = LimitError;
 
     fn write(&mut self, alloc: Global, key: &TaskKey) -> Result<driver::Cite, LimitError> {
-        let Some(item) = self.items.place(key.entry.as_str()) else {
+        let Some(item) = self.items.keyed_place(key.entry.as_str()) else {
             return Ok(nothing(alloc));
         };
         match &key.part {
@@ -97,8 +97,8 @@ impl<'s, 'i, 'd> TaskWriter<'s, 'i, 'd> {
             items,
             citations,
             lists_items,
-            compared_cites: IndexMap::new(alloc),
-            shown_cites: IndexMap::new(alloc),
+            compared_cites: BTreeMap::new(alloc),
+            shown_cites: BTreeMap::new(alloc),
         }
     }
 

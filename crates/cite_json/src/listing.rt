@@ -1,8 +1,8 @@
 //! Citations that show nothing, for items that are to be listed.
 use cite_host::cites::{Citation, Cite};
 use csl_references::reference::References;
-use indexmap::IndexSet;
 use std::alloc::{AllocError, Global};
+use std::collections::BTreeSet;
 
 /// A citation of all references, which isn't shown.
 ///
@@ -30,9 +30,9 @@ pub fn uncited(
 ) -> Result<Citation, AllocError> {
     let cited = cited_ids(alloc, citations)?;
     let mut cites = Vec::new(alloc);
-    for id in references.keys() {
-        if !cited.contains(id) {
-            cites.push(hidden_cite(alloc, id)?)?;
+    for reference in references.as_slice() {
+        if !cited.contains(&reference.id) {
+            cites.push(hidden_cite(alloc, &reference.id)?)?;
         }
     }
     Ok(Citation {
@@ -44,8 +44,8 @@ pub fn uncited(
 }
 
 /// The ids of the references that are cited.
-fn cited_ids(alloc: Global, citations: &[Citation]) -> Result<IndexSet<String>, AllocError> {
-    let mut ids = IndexSet::new(alloc);
+fn cited_ids(alloc: Global, citations: &[Citation]) -> Result<BTreeSet<String>, AllocError> {
+    let mut ids = BTreeSet::new(alloc);
     for citation in citations {
         for cite in &citation.cites {
             ids.insert(cite.id.clone()?)?;

@@ -17,7 +17,7 @@ const USUAL_INITIALS: usize = 2;
 /// How long a text of a style usually is that may have markup.
 const USUAL_VALUE: usize = 64;
 
-/// How long what stands between parts of a name, or behind an initial, usually is.
+/// How long what stands between parts of a name, or after an initial, usually is.
 const USUAL_SEPARATOR: usize = 8;
 
 /// How many bytes of a text that is longer than usual may be markup that takes a step.

@@ -1,7 +1,6 @@
 //! Chains of locales (CSL 1.0.2, Locale Fallback).
 use crate::indexed::IndexedLocale;
 use crate::tags::{is_same_tag, usual_tag};
-use csl_texts::alphabets::{OwnLetter, own_letters};
 use csl_texts::cases::Language;
 use csl_texts::quotes::QuoteMarks;
 use csl_vocabulary::term::{PlainTerm, TermForm};
@@ -17,13 +16,12 @@ pub struct LocaleChain<'a> {
     /// How many of them are of the language, and not of English in its place.
     own: usize,
     language: Language,
-    own_letters: &'static [OwnLetter],
 }
 
 impl<'a> LocaleChain<'a> {
-    /// The chain for a document in this language (a tag as `de-AT`, or `de_at`): the style's own locales for it
-    /// and for all languages; then the locale files of the dialect, of the language's primary
-    /// dialect, and of en-US.
+    /// The chain for a document in this language (a tag as `de-AT`, or `de_at`): the style's own
+    /// locales for it and for all languages; then the locale files of the dialect, of the
+    /// language's primary dialect, and of en-US.
     ///
     /// # Errors
     ///
@@ -54,7 +52,6 @@ impl<'a> LocaleChain<'a> {
             locales,
             own,
             language,
-            own_letters: own_letters(tag),
         })
     }
 
@@ -75,11 +72,6 @@ impl<'a> LocaleChain<'a> {
         self.language
     }
 
-    /// The letters that the language sorts behind others.
-    pub fn own_letters(&self) -> &'static [OwnLetter] {
-        self.own_letters
-    }
-
     /// The date of this form, which is that of the first locale that has it.
     pub fn date(&self, form: DateForm) -> Option<&'a LocaleDate> {
         for locale in &self.locales {
@@ -92,8 +84,8 @@ impl<'a> LocaleChain<'a> {
         None
     }
 
-    /// Whether a period or a comma behind a quote stands inside it (punctuation-in-quote), as the
-    /// first locale says that tells; not where none does.
+    /// Whether a period or a comma after a quote stands inside it (punctuation-in-quote), as the
+    /// first locale with this option says; not where none has it.
     pub fn has_punctuation_in_quotes(&self) -> bool {
         for locale in &self.locales {
             if let Some(value) = locale.locale.options.punctuation_in_quote {
@@ -104,7 +96,7 @@ impl<'a> LocaleChain<'a> {
     }
 
     /// Whether the first day of a month alone is an ordinal (limit-day-ordinals-to-day-1), as the
-    /// first locale says that tells; not where none does.
+    /// first locale with this option says; not where none has it.
     pub fn limits_day_ordinals(&self) -> bool {
         for locale in &self.locales {
             if let Some(value) = locale.locale.options.limit_day_ordinals_to_day_1 {
@@ -125,7 +117,7 @@ impl<'a> LocaleChain<'a> {
     }
 
     /// What stands between the pages of a range (page-range-delimiter): an en dash where no locale
-    /// tells.
+    /// says it.
     pub fn page_range_delimiter(&self) -> &'a str {
         self.mark(PlainTerm::PageRangeDelimiter, "–")
     }

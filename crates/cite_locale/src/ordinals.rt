@@ -6,9 +6,9 @@ use csl_vocabulary::term::{Gender, OrdinalMatch, PlainTerm, TermForm, TermName};
 use style_file::locale::Term;
 
 impl<'a> LocaleChain<'a> {
-    /// What stands behind the digits of an ordinal, for a noun of this gender; empty where no
-    /// locale tells. All suffixes are those of the first locale that has one: a style that tells
-    /// one tells all.
+    /// What follows the digits of an ordinal, for a noun of this gender; empty where no locale says
+    /// it. All suffixes are those of the first locale that has one: a style that defines one
+    /// defines all.
     ///
     /// A term for the whole number goes before one for its last two digits, that before one for its
     /// last digit, and that before the term `ordinal`.

@@ -24,8 +24,8 @@ pub fn usual_tag(alloc: Global, tag: &str) -> Result<String, AllocError> {
     Ok(usual)
 }
 
-/// Whether two language tags are the same; neither case nor what stands between their parts, a
-/// hyphen or an underscore, is told apart.
+/// Whether two language tags are the same; case is ignored, and so is whether a hyphen or an
+/// underscore stands between their parts.
 pub fn is_same_tag(tag: &str, other: &str) -> bool {
     tag.chars()
         .map(|c| folded(c))

@@ -1,7 +1,7 @@
-//! The name that stands for names that aren't told, as `and others` of BibTeX.
+//! The name that stands for names that aren't given, as `and others` of BibTeX.
 use csl_references::name::Name;
 
-/// What converters of BibTeX write in place of names that aren't told.
+/// What converters of BibTeX write in place of names that aren't given.
 const OTHERS: &str = "others";
 
 /// The names of a list but a last one that stands for others. A name that stands alone is a name.

@@ -130,7 +130,7 @@ impl Parts {
         }
     }
 
-    /// Adds a short name. In a key of sorting a particle that is demoted stands behind it.
+    /// Adds a short name. In a key of sorting a particle that is demoted follows it.
     fn add_short(
         &mut self,
         rules: &NameRules<'_>,

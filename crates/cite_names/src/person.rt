@@ -1,4 +1,4 @@
-//! Persons, as the driver tells them from each other.
+//! Persons, as the driver distinguishes them.
 use crate::parts::joined;
 use csl_base::entry::Person;
 use csl_base::text::Text;

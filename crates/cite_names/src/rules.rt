@@ -47,7 +47,7 @@ pub struct NameRules<'s> {
     pub sort_separator: &'s str,
     /// Whether initials of a compound name have a hyphen between them.
     pub has_hyphens: bool,
-    /// Whether a non-dropping particle stands behind the given names of a name in sort order.
+    /// Whether a non-dropping particle follows the given names of a name in sort order.
     pub demotes_particle: bool,
     /// Whether the names are those of a key of sorting.
     pub is_key: bool,

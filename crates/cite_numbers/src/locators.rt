@@ -166,7 +166,7 @@ impl Longest {
     }
 }
 
-/// Whether what stands behind a word counts something: it is not so with `table of contents`.
+/// Whether what follows a word counts something: it is not so with `table of contents`.
 fn begins_with_count(text: &str) -> bool {
     let first = text.split_whitespace().next().unwrap_or("");
     first.chars().any(|c| c.is_numeric())

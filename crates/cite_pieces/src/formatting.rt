@@ -4,7 +4,7 @@ use style_file::formatting::{
     FontStyle, FontVariant, FontWeight, Formatting, TextDecoration, VerticalAlign,
 };
 
-/// Formatting of which nothing is asked for.
+/// Formatting that asks for nothing.
 pub const NOTHING_ASKED: Formatting = Formatting {
     font_style: None,
     font_variant: None,

@@ -2,12 +2,11 @@
 //!
 //! Elements of a style are written into an [`output::Output`], with their affixes and delimiters.
 //! What comes of it is a stream of [`pieces::Pieces`], whose punctuation [`punctuation`] puts in
-//! order, and which [`html`] and [`plain`] print.
+//! order, and which [`plain`] prints.
 #![tactic(auto)]
 
 mod cases;
 pub mod formatting;
-pub mod html;
 pub mod marked;
 pub mod output;
 pub mod piece;
@@ -15,5 +14,3 @@ pub mod pieces;
 pub mod plain;
 pub mod punctuation;
 mod rich;
-mod superscripts;
-mod tags;

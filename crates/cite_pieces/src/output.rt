@@ -149,8 +149,8 @@ impl<'s> Output<'s> {
     }
 
     /// Closes the innermost element. Where it has text, it is written with what stands around it,
-    /// and behind the delimiter of the element around it where text is before it; else it leaves
-    /// nothing. Tells whether it had text.
+    /// and after the delimiter of the element around it where text is before it; else it leaves
+    /// nothing. Returns whether it had text.
     ///
     /// # Errors
     ///
@@ -180,7 +180,7 @@ impl<'s> Output<'s> {
         Ok(true)
     }
 
-    /// Closes the innermost element, which leaves nothing. Tells whether one was open.
+    /// Closes the innermost element, which leaves nothing. Returns whether one was open.
     pub fn discard(&mut self) -> bool {
         match self.open.pop() {
             Some(closed) => {
@@ -256,13 +256,19 @@ impl<'s> Output<'s> {
         self.push_rich(&RichText::of_markup(self.alloc, markup)?)
     }
 
-    /// Adds a stream that leads to an address.
+    /// Adds a stream that leads to an address. Where what is written ends with the beginning of
+    /// the address, as the prefix of a group may, this is part of the link.
     ///
     /// # Errors
     ///
     /// Where memory is refused.
     pub fn push_link(&mut self, inside: Pieces, address: String) -> Result<(), AllocError> {
-        self.push_wrapped(Wrap::Link(address), inside)
+        self.begin()?;
+        let beginning = self.content.take_beginning(self.alloc, address.as_str())?;
+        let mut whole = Pieces::new(self.alloc);
+        whole.push_text(beginning)?;
+        whole.push_pieces(inside)?;
+        self.push_wrapped(Wrap::Link(address), whole)
     }
 
     /// Adds a stream with something around it.
@@ -422,7 +428,7 @@ fn close_wraps(out: &mut Pieces, element: &Element<'_>) -> Result<(), AllocError
     Ok(())
 }
 
-/// Adds what stands behind the content of an element, which begins at this place.
+/// Adds what follows the content of an element, which begins at this place.
 fn push_end(
     alloc: Global,
     out: &mut Pieces,

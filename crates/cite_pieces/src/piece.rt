@@ -33,11 +33,11 @@ pub enum QuoteSource {
     Style,
     /// The text of a field has them.
     Field,
-    /// So it has, and it ends with them: what stands behind them is the style's.
+    /// So it has, and it ends with them: what follows them is the style's.
     FieldEnd,
 }
 
-/// What a part of a stream was written for. A number tells parts apart, and is the caller's own.
+/// What a part of a stream was written for. A number distinguishes parts, and is the caller's own.
 #[derive(Clone, Copy, PartialEq, Eq)]
 pub enum Mark {
     /// All that a cite has of names, with their label, or what stands in for them.
@@ -48,7 +48,7 @@ pub enum Mark {
     Name(NameVariable, usize),
     /// A date.
     Date(usize),
-    /// The suffix that tells the dates of two items apart.
+    /// The suffix that disambiguates the dates of two items.
     YearSuffix,
     CitationNumber,
     CitationLabel,

@@ -1,5 +1,8 @@
 //! Streams of pieces.
+ghost use Rattle.std.specs.Prelude.{◌≡◌};
+
 use crate::piece::{Mark, Piece, Wrap};
+use csl_texts::addresses::{last_address, without_beginning};
 use std::alloc::{AllocError, Global};
 
 /// A stream of pieces. What opens in it closes in it, and nothing else does.
@@ -53,12 +56,16 @@ impl Pieces {
     }
 
     /// The pieces in their order.
-    pub fn as_slice(&self) -> &[Piece] {
+    pub fn as_slice(&self) -> &[Piece]
+        ensures { result.now ≡ self.now.pieces.items }
+    {
         self.pieces.as_slice()
     }
 
     /// The pieces as a vector.
-    pub fn into_vec(self) -> Vec<Piece> {
+    pub fn into_vec(self) -> Vec<Piece>
+        ensures { result ≡ self.pieces }
+    {
         self.pieces
     }
 
@@ -162,6 +169,26 @@ impl Pieces {
         self.pieces.len()
     }
 
+    /// Takes off the end of the last text, if the stream ends with one that ends with the
+    /// beginning of this address. Empty where nothing is taken off.
+    pub(crate) fn take_beginning(
+        &mut self,
+        alloc: Global,
+        address: &str,
+    ) -> Result<String, AllocError> {
+        let Some(Piece::Text(text)) = self.pieces.last() else {
+            return Ok(String::new(alloc));
+        };
+        let (rest, beginning) = split_before_address(text.as_str(), address);
+        let rest = String::from_str(alloc, rest)?;
+        let beginning = String::from_str(alloc, beginning)?;
+        if !beginning.is_empty() {
+            self.pieces.pop();
+            self.push_text(rest)?;
+        }
+        Ok(beginning)
+    }
+
     /// Leaves the pieces before this place.
     pub(crate) fn truncate(&mut self, end: usize) {
         self.pieces.truncate(end);
@@ -177,7 +204,7 @@ impl Pieces {
         })
     }
 
-    /// Removes what opens the first mark between these places. Tells whether there was one.
+    /// Removes what opens the first mark between these places. Returns whether there was one.
     pub(crate) fn remove_mark(&mut self, start: usize, end: usize) -> bool {
         match self.mark_between(start, end) {
             Some(place) if place < self.pieces.len() => {
@@ -295,6 +322,16 @@ impl Pieces {
             }
         }
         Ok(kept)
+    }
+}
+
+/// A text, and what it ends with that an address begins with, in any case.
+fn split_before_address<'t>(text: &'t str, address: &str) -> (&'t str, &'t str) {
+    let beginning = last_address(text);
+    let has_beginning = without_beginning(address, beginning).is_some();
+    match text.strip_suffix(beginning) {
+        Some(rest) if has_beginning => (rest, beginning),
+        _ => (text, ""),
     }
 }
 

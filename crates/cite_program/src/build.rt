@@ -55,7 +55,7 @@ struct Builder<'s> {
 enum Pending<'s> {
     /// Elements, which may stand in for names.
     Elements(&'s [RenderingElement], Option<NamesInUse<'s>>),
-    /// Elements each of which may stand in for the names at this place among the steps.
+    /// Elements. Each may stand in for the names at this place among the steps.
     Substitutes(&'s [RenderingElement], NamesInUse<'s>, usize),
     Step(Step<'s>),
     /// Branches, and what is written otherwise, of the choice at this place.

@@ -41,7 +41,7 @@ pub struct CiteStream {
     pub cite: Pieces,
 }
 
-/// The cites of a citation in their order. What stands behind the last is left out: the affixes
+/// The cites of a citation in their order. What follows the last is left out: the affixes
 /// of a layout are written by the host.
 ///
 /// # Errors
@@ -84,10 +84,59 @@ fn push_children(
     stream: &mut Pieces,
     children: &ElemChildren,
 ) -> Result<(), AllocError> {
+    let mut link = OpenLink::new(alloc);
     for child in &children.0 {
-        push_child(alloc, stream, child)?;
+        match child {
+            ElemChild::Link { text, url } => link.push(stream, text, url.as_str())?,
+            _ => {
+                link.end(stream)?;
+                push_child(alloc, stream, child)?;
+            }
+        }
     }
-    Ok(())
+    link.end(stream)
+}
+
+/// A link that neighbours may share: those that lead to the same address.
+#[derive(Drop)]
+struct OpenLink<'t> {
+    alloc: Global,
+    url: &'t str,
+    inside: Pieces,
+}
+
+impl<'t> OpenLink<'t> {
+    fn new(alloc: Global) -> OpenLink<'t> {
+        OpenLink {
+            alloc,
+            url: "",
+            inside: Pieces::new(alloc),
+        }
+    }
+
+    /// Adds a text that leads to an address.
+    fn push(
+        &mut self,
+        stream: &mut Pieces,
+        text: &Formatted,
+        url: &'t str,
+    ) -> Result<(), AllocError> {
+        if self.url != url {
+            self.end(stream)?;
+            self.url = url;
+        }
+        push_formatted(self.alloc, &mut self.inside, text)
+    }
+
+    /// Adds what is in the link to a stream.
+    fn end(&mut self, stream: &mut Pieces) -> Result<(), AllocError> {
+        if self.inside.as_slice().is_empty() {
+            return Ok(());
+        }
+        let inside = replace(&mut self.inside, Pieces::new(self.alloc));
+        let url = String::from_str(self.alloc, self.url)?;
+        stream.push_wrapped(Wrap::Link(url), inside)
+    }
 }
 
 #[cycle(stream)]

@@ -159,7 +159,7 @@ impl Builder<'_> {
         Ok(())
     }
 
-    /// What the driver is told of a mark.
+    /// What the driver learns of a mark.
     fn meta_of(&self, mark: Mark) -> Result<Option<ElemMeta>, AllocError> {
         let meta = match mark {
             Mark::Names(place) => match self.names.get(place) {

@@ -1,8 +1,8 @@
 //! Abbreviations of texts, as of the titles of journals.
 use csl_references::rich_text::RichText;
 use csl_vocabulary::variable::TextVariable;
-use indexmap::IndexMap;
 use std::alloc::{AllocError, Global};
+use std::collections::BTreeMap;
 
 /// The short forms of texts, without regard to case.
 #[derive(Drop)]
@@ -14,7 +14,7 @@ pub struct Abbreviations {
 #[derive(Drop)]
 struct AbbreviationTable {
     variable: TextVariable,
-    short_forms: IndexMap<String, RichText>,
+    short_forms: BTreeMap<String, RichText>,
 }
 
 impl Abbreviations {
@@ -45,7 +45,7 @@ impl Abbreviations {
                 return Ok(());
             }
         }
-        let mut short_forms = IndexMap::new(alloc);
+        let mut short_forms = BTreeMap::new(alloc);
         short_forms.insert(long, short)?;
         self.tables.push(AbbreviationTable {
             variable,

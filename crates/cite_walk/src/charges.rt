@@ -49,7 +49,7 @@ impl<'s> Walk<'s, '_> {
         place
     }
 
-    /// What a step costs here, with what the item has, behind the delimiter of what is around it.
+    /// What a step costs here, with what the item has, after the delimiter of what is around it.
     fn price_of(&self, step: &Step<'s>) -> Cost {
         let delimiter = match self.frames.last() {
             Some(frame) => frame.delimiter,

@@ -42,7 +42,7 @@ pub enum SceneKind {
 }
 
 /// How a cite repeats the one before it.
-#[derive(Clone, Copy, PartialEq, Eq, Hash)]
+#[derive(Clone, Copy, PartialEq, Eq, PartialOrd, Ord)]
 pub enum Repetition {
     Ibid,
     IbidWithLocator,

@@ -87,18 +87,18 @@ impl Linked {
     }
 }
 
-/// A link behind a prefix.
+/// A link after a prefix.
 #[derive(Drop)]
 struct Link<'p> {
     /// Where it leads to, if it has an address.
     address: Option<String>,
     /// The end of the prefix that is part of it.
     beginning: &'p str,
-    /// What is shown behind that.
+    /// What is shown after that.
     shown: String,
 }
 
-/// The link of a value behind a prefix.
+/// The link of a value after a prefix.
 fn link_of<'p>(
     alloc: Global,
     linked: Linked,
@@ -132,7 +132,7 @@ fn url_link<'p>(alloc: Global, prefix: &'p str, value: &str) -> Result<Link<'p>,
     })
 }
 
-/// Behind the address of a resolver an identifier is shown without one of its own.
+/// After the address of a resolver an identifier is shown without one of its own.
 fn identifier_link<'p>(
     alloc: Global,
     identifier: Identifier,

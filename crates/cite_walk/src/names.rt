@@ -125,7 +125,7 @@ impl<'s, 'c> Walk<'s, 'c> {
         }
     }
 
-    /// Writes the number of names that would be written; in a key of sorting, behind zeros.
+    /// Writes the number of names that would be written; in a key of sorting, after zeros.
     fn write_count(
         &mut self,
         names: &NamesInUse<'s>,

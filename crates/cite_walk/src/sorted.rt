@@ -25,7 +25,7 @@ pub fn sorted_number(alloc: Global, text: &str) -> Result<String, AllocError> {
     Ok(out)
 }
 
-/// Adds digits behind the zeros that they lack.
+/// Adds digits after the zeros that they lack.
 fn push_digits(out: &mut String, digits: &str) -> Result<(), AllocError> {
     if digits.is_empty() {
         return Ok(());

@@ -70,8 +70,8 @@ impl<'s> Walk<'s, '_> {
         Ok(())
     }
 
-    /// Writes the words for no date. To the driver they are a date, behind which the suffix of the
-    /// year stands; as a term they aren't a variable.
+    /// Writes the words for no date. To the driver they are a date, and the suffix of the year
+    /// follows it; as a term they aren't a variable.
     fn write_no_date(&mut self, text: &'s Text, words: &str) -> Result<(), AllocError> {
         let mark = Mark::Date(self.dates);
         self.dates = self.dates.saturating_add(1);
@@ -140,7 +140,7 @@ impl<'s> Walk<'s, '_> {
         Ok(())
     }
 
-    /// Writes the suffix of the year behind the first date, where the style has no place for it.
+    /// Writes the suffix of the year after the first date, where the style has no place for it.
     pub(crate) fn write_implicit_suffix(&mut self) -> Result<(), AllocError> {
         let Some(letters) = self.take_implicit_suffix()? else {
             return Ok(());

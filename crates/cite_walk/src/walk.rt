@@ -344,7 +344,7 @@ impl<'s, 'c> Walk<'s, 'c> {
     }
 
     /// Closes an element that may stand in for names. Where it has text, its variables are written
-    /// nowhere else, and the elements behind it don't stand in.
+    /// nowhere else, and the elements after it don't stand in.
     fn close_substitute(&mut self, names_at: usize) -> Result<(), AllocError> {
         let frame = self.frames.pop().unwrap_or(Frame::NEW);
         self.add(frame);

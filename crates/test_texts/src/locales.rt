@@ -54,7 +54,7 @@ close-quote|||||’
 open-inner-quote|||||“
 close-inner-quote|||||”";
 
-/// Formatting of which nothing is asked for.
+/// Formatting that asks for nothing.
 pub const PLAIN: Formatting = Formatting {
     font_style: None,
     font_variant: None,

@@ -2,7 +2,6 @@
 use crate::said::Said;
 use crate::texts::case_of;
 use cite_locale::chain::LocaleChain;
-use cite_pieces::html::html;
 use cite_pieces::output::{AffixPlace, Element, Output};
 use cite_pieces::pieces::Pieces;
 use cite_pieces::plain::plain_text;
@@ -12,6 +11,7 @@ use std::alloc::{AllocError, Global};
 use style_file::formatting::{
     Display, FontStyle, FontVariant, FontWeight, Formatting, TextDecoration, VerticalAlign,
 };
+use write_html::html::html;
 
 /// What is written of a text with markup.
 fn pieces_of_rich(
@@ -74,7 +74,7 @@ fn punctuated_html(
     html(alloc, &pieces, locales.quote_marks())
 }
 
-/// Does these steps. Tells whether each is one.
+/// Does these steps. Returns whether each is one.
 fn push_steps<'s>(output: &mut Output<'s>, steps: &[&'s str]) -> Result<bool, AllocError> {
     for step in steps {
         if !push_step(output, *step)? {
@@ -84,7 +84,7 @@ fn push_steps<'s>(output: &mut Output<'s>, steps: &[&'s str]) -> Result<bool, Al
     Ok(true)
 }
 
-/// Does a step. Tells whether it is one.
+/// Does a step. Returns whether it is one.
 fn push_step<'s>(output: &mut Output<'s>, step: &'s str) -> Result<bool, AllocError> {
     if let Some(attributes) = step.strip_prefix('{') {
         output.open(element_of(attributes))?;

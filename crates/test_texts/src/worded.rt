@@ -116,7 +116,7 @@ fn give_locator(
     }
 }
 
-/// LOCALE ELEMENT SUFFIX DATE; the suffix stands behind the year.
+/// LOCALE ELEMENT SUFFIX DATE; the suffix follows the year.
 pub fn date(alloc: Global, files: &[LocaleFile], args: &[&str], said: &mut Said) {
     let [tag, element, suffix, text] = args else {
         return;

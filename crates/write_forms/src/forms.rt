@@ -1,13 +1,10 @@
 //! A stream in a form.
-use cite_pieces::formatting::TextFormatting;
-use cite_pieces::html::html;
-use cite_pieces::marked::with_marks;
 use cite_pieces::pieces::Pieces;
 use cite_pieces::plain::plain_text;
-use cite_trees::trees::tree_of;
-use csl_base::elem::ElemChildren;
+use cite_trees::shown::shown_tree;
 use csl_texts::quotes::QuoteMarks;
 use std::alloc::{AllocError, Global};
+use write_html::html::html;
 use write_markup::latex::latex;
 use write_markup::markdown::markdown;
 use write_markup::runs::Run;
@@ -60,21 +57,4 @@ fn shown_runs(
 ) -> Result<Vec<Run>, AllocError> {
     let tree = shown_tree(alloc, pieces, marks)?;
     runs_of(alloc, &tree, targets)
-}
-
-/// The tree of a stream, with quotation marks as text, whose texts are joined where they have the
-/// same formatting.
-///
-/// # Errors
-///
-/// Where memory is refused.
-pub(crate) fn shown_tree(
-    alloc: Global,
-    pieces: &Pieces,
-    marks: QuoteMarks<'_>,
-) -> Result<ElemChildren, AllocError> {
-    let stream = with_marks(alloc, pieces, marks)?;
-    let mut tree = tree_of(alloc, stream, TextFormatting::NORMAL, &[])?;
-    tree.simplify_children()?;
-    Ok(tree)
 }

@@ -1,6 +1,7 @@
 //! An item of a bibliography in a form.
-use crate::forms::{Form, shown_tree, written};
+use crate::forms::{Form, written};
 use cite_pieces::pieces::Pieces;
+use cite_trees::shown::shown_tree;
 use csl_texts::quotes::QuoteMarks;
 use std::alloc::{AllocError, Global};
 use write_markup::items::ItemRuns;

@@ -3,11 +3,12 @@ use crate::items::ItemRuns;
 use crate::latex_breaks::{is_address, with_breaks};
 use crate::latex_escapes::{escaped, may_join, push_address};
 use crate::runs::{ElementRun, Format, Run, TextRun};
+use crate::spaces::LineEnd;
 use csl_base::formatting::Display;
 use std::alloc::{AllocError, Global};
 
 /// The LaTeX of runs. A block and what is indented are paragraphs; the other things that are set
-/// off stand in the line.
+/// off stand in the line, with a space beside them.
 ///
 /// # Errors
 ///
@@ -15,18 +16,35 @@ use std::alloc::{AllocError, Global};
 pub fn latex(alloc: Global, runs: &[Run]) -> Result<String, AllocError> {
     let mut line = String::new(alloc);
     let mut last = None;
+    let mut end = LineEnd::EMPTY;
     for run in runs {
         match run {
             Run::Text(text) => {
+                if end.push(text.text()) {
+                    line.push(' ')?;
+                }
                 let written = text_of(alloc, text)?;
                 push_apart(&mut line, last, written.as_str())?;
                 last = written.as_str().chars().next_back().or(last);
             }
-            Run::Open(element) => push_opening(&mut line, element)?,
-            Run::Close(element) => push_closing(&mut line, element)?,
+            Run::Open(element) => {
+                set_off(&mut end, element);
+                push_opening(&mut line, element)?;
+            }
+            Run::Close(element) => {
+                set_off(&mut end, element);
+                push_closing(&mut line, element)?;
+            }
         }
     }
     Ok(line)
+}
+
+/// Notes where an element begins or ends that is set off in the line.
+fn set_off(end: &mut LineEnd, element: &ElementRun) {
+    if let Some(Display::LeftMargin | Display::RightInline) = element.display {
+        end.set_off();
+    }
 }
 
 /// The LaTeX of an item of a bibliography, on a line, with its first field in front.

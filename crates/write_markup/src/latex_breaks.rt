@@ -25,7 +25,7 @@ fn is_doi(text: &str) -> bool {
     }
 }
 
-/// The LaTeX of an address, whose lines may break behind its signs.
+/// The LaTeX of an address, whose lines may break after its signs.
 ///
 /// # Errors
 ///
@@ -60,7 +60,7 @@ impl Before {
         matches!(self, Before::Sign | Before::Underscore) && !is_sign(c) && !matches!(c, '{' | '}')
     }
 
-    /// What stands before the next place, behind this letter.
+    /// What stands before the next place, after this letter.
     fn behind(self, c: char) -> Before {
         match c {
             '\\' => Before::Backslash,

@@ -4,23 +4,36 @@ use crate::markdown_beginnings::begun;
 use crate::markdown_escapes::escaped;
 use crate::markdown_notations::Notation;
 use crate::runs::{ElementRun, Run, TextRun};
+use crate::spaces::LineEnd;
 use std::alloc::{AllocError, Global};
 
 /// The Markdown of runs, on a line, which may begin a paragraph. Where the marks `*` and `**` would
 /// not be read as such, beside letters, the tags `em` and `strong` stand in their place; small
 /// capitals, underlines, superscripts and subscripts are tags of HTML, too. What is set off stands
-/// in the line.
+/// in the line, with a space beside it.
 ///
 /// # Errors
 ///
 /// Where memory is refused.
 pub fn markdown(alloc: Global, runs: &[Run]) -> Result<String, AllocError> {
     let mut line = String::new(alloc);
-    for (place, run) in runs.iter().enumerate() {
+    let mut end = LineEnd::EMPTY;
+    for (index, run) in runs.iter().enumerate() {
         match run {
-            Run::Text(text) => push_text(alloc, &mut line, text, letter_after(runs, place))?,
-            Run::Open(element) => push_opening(&mut line, element)?,
-            Run::Close(element) => push_closing(&mut line, element)?,
+            Run::Text(text) => {
+                if end.push(text.text()) {
+                    line.push(' ')?;
+                }
+                push_text(alloc, &mut line, text, letter_after(runs, index))?;
+            }
+            Run::Open(element) => {
+                set_off(&mut end, element);
+                push_opening(&mut line, element)?;
+            }
+            Run::Close(element) => {
+                set_off(&mut end, element);
+                push_closing(&mut line, element)?;
+            }
         }
     }
     begun(alloc, line.as_str())
@@ -52,9 +65,16 @@ pub fn markdown_entry(alloc: Global, target: &str, text: &str) -> Result<String,
     format!(in alloc; "<div id=\"{target}\" class=\"csl-entry\">\n\n{text}\n\n</div>")
 }
 
-/// The first letter of what is written behind the run at a place.
-fn letter_after(runs: &[Run], place: usize) -> Option<char> {
-    for run in runs.iter().skip(place.saturating_add(1)) {
+/// Notes where an element begins or ends that is set off.
+fn set_off(end: &mut LineEnd, element: &ElementRun) {
+    if element.display.is_some() {
+        end.set_off();
+    }
+}
+
+/// The first letter of what is written after the run at an index.
+fn letter_after(runs: &[Run], index: usize) -> Option<char> {
+    for run in runs.iter().skip(index.saturating_add(1)) {
         let letter = first_letter(run);
         if letter.is_some() {
             return letter;
@@ -68,7 +88,8 @@ fn first_letter(run: &Run) -> Option<char> {
     match run {
         Run::Text(text) if text.is_plain() => text.text().chars().next(),
         Run::Text(_) => Some(']'),
-        Run::Open(element) | Run::Close(element) => element.target.as_ref().map(|_target| ']'),
+        Run::Open(element) | Run::Close(element) if element.target.is_some() => Some(']'),
+        Run::Open(element) | Run::Close(element) => element.display.map(|_display| ' '),
     }
 }
 
@@ -91,7 +112,7 @@ fn push_closing(line: &mut String, element: &ElementRun) -> Result<(), AllocErro
 }
 
 /// Adds a text, whose formatting and link stand around its letters, and not around the white space
-/// beside them; `after` is the first letter of what is written behind it.
+/// beside them; `after` is the first letter of what is written after it.
 fn push_text(
     alloc: Global,
     line: &mut String,

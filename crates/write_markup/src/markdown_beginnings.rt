@@ -29,7 +29,7 @@ fn is_bullet(c: char) -> bool {
     matches!(c, '-' | '+' | '=' | ':' | '%')
 }
 
-/// What follows a number, in digits or letters, where that is a mark with white space behind it.
+/// What follows a number, in digits or letters, where that is a mark with white space after it.
 fn mark_behind_number(text: &str) -> Option<&str> {
     let mark = behind_number(text)?;
     let behind = mark.strip_prefix(is_list_mark)?;
@@ -58,7 +58,7 @@ fn is_long(text: &str, behind: &str) -> bool {
     text.len() >= behind.len().saturating_add(2)
 }
 
-/// What follows a capital, where that is a bracket, or a dot with two spaces behind it.
+/// What follows a capital, where that is a bracket, or a dot with two spaces after it.
 fn mark_behind_capital(text: &str) -> Option<&str> {
     let mark = text.strip_prefix(is_large_letter)?;
     if mark.starts_with(')') {

@@ -1,7 +1,7 @@
 //! Letters that Markdown reads as its own.
 use std::alloc::{AllocError, Global};
 
-/// A text behind this letter, in a paragraph, with nothing in it that Markdown reads as anything
+/// A text after this letter, in a paragraph, with nothing in it that Markdown reads as anything
 /// but its letters.
 ///
 /// # Errors

@@ -57,7 +57,7 @@ fn has_mark(format: Format) -> bool {
     matches!(format, Format::Italic | Format::Bold)
 }
 
-/// Whether a mark behind this letter begins formatting.
+/// Whether a mark after this letter begins formatting.
 fn opens(before: char) -> bool {
     matches!(
         before,

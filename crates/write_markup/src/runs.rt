@@ -86,12 +86,12 @@ impl TextRun {
         ]
     }
 
-    /// Whether the text and one behind it may be one: both lead nowhere, in one formatting.
+    /// Whether the text and one after it may be one: both lead nowhere, in one formatting.
     pub(crate) fn joins(&self, next: &TextRun) -> bool {
         self.address.is_none() && next.address.is_none() && self.formatting == next.formatting
     }
 
-    /// Adds the letters of a text behind it.
+    /// Adds the letters of a text after it.
     pub(crate) fn push(&mut self, next: &TextRun) -> Result<(), AllocError> {
         self.text.push_str(next.text.as_str())
     }

@@ -94,7 +94,7 @@ fn digits_at(letters: &[char], begin: usize) -> usize {
     digits
 }
 
-/// The place behind this beginning, in any case, where the letters at a place have it.
+/// The place after this beginning, in any case, where the letters at a place have it.
 fn behind(letters: &[char], begin: usize, beginning: &str) -> Option<usize> {
     let mut place = begin;
     for c in beginning.chars() {

@@ -1,4 +1,6 @@
 //! Superscript characters: what they show above the line.
+ghost use Rattle.std.specs.Prelude.{◌≡◌, ◌==◌};
+ghost use Rattle.std.specs.Map.{lookup};
 
 /// The letters, digits and signs that have a superscript character of their own.
 const SUPERSCRIPTS: &[(char, char)] = &[
@@ -89,11 +91,19 @@ const SUPERSCRIPTS: &[(char, char)] = &[
 ];
 
 /// The character that this one shows above the line.
-pub(crate) fn base_of(c: char) -> Option<char> {
+pub(crate) fn base_of(c: char) -> Option<char>
+    ensures { result ≡ lookup (λ superscript. superscript == c) SUPERSCRIPTS.now }
+{
     if c < 'ª' {
         return None;
     }
-    for (superscript, base) in SUPERSCRIPTS {
+    base_in(SUPERSCRIPTS, c)
+}
+
+fn base_in(superscripts: &[(char, char)], c: char) -> Option<char>
+    ensures { result ≡ lookup (λ superscript. superscript == c) superscripts.now }
+{
+    for (superscript, base) in superscripts {
         if *superscript == c {
             return Some(*base);
         }
