@@ -6,13 +6,12 @@ use crate::error::{CallError, answer_refusal};
 use crate::findings::print_findings;
 use crate::lines::print_lines;
 use crate::reader::TextReader;
-use crate::remark::Fault;
-use crate::texts::CallTexts;
+use crate::remark::{Fault, Remark, TextPlace};
+use crate::style::style_faults;
+use crate::texts::{CallTexts, TextName};
 use cite_answer::printing::print_answer;
-use cite_host::answer::{Answer, Document};
 use cite_host::limits::check_style;
-use cite_locale::chain::LocaleChain;
-use std::alloc::Global;
+use std::alloc::{AllocError, Global};
 
 /// The citations and the bibliography of these texts, which is there where the style has one: as
 /// JSON, in the form of the driver's answers, or as lines in the form that the options name.
@@ -33,43 +32,25 @@ fn print_document(
     text: &[u8],
     document: &CallDocument,
 ) -> Result<String, CallError> {
-    let style = &document.style;
-    let language = document.language.as_str();
-    let locale = LocaleChain::new(alloc, language, &style.locales, &document.locales)?;
-    let mut answer = answer_of(alloc, text, document, &locale)?;
-    answer.citations.truncate(document.shown);
+    let CallDocument {
+        styling,
+        references,
+        citations,
+        shown,
+    } = document;
+    let locale = styling.locale(alloc)?;
+    let mut answer = styling.answer(alloc, text, &locale, references, citations)?;
+    answer.citations.truncate(*shown);
     let marks = locale.quote_marks();
-    Ok(match document.lines {
+    Ok(match styling.options.lines {
         Some(form) => print_lines(alloc, form, &answer, marks)?,
-        None => print_answer(alloc, style, &document.citations, &answer, marks)?,
+        None => print_answer(alloc, &styling.style, citations, &answer, marks)?,
     })
 }
 
-/// What comes of a document, with these locales.
-fn answer_of(
-    alloc: Global,
-    text: &[u8],
-    document: &CallDocument,
-    locale: &LocaleChain<'_>,
-) -> Result<Answer, CallError> {
-    let asked = Document {
-        style: &document.style,
-        locale,
-        language: document.language.as_str(),
-        references: &document.references,
-        citations: &document.citations,
-        abbreviations: document.abbreviations.as_ref(),
-        lists_items: true,
-        part: document.part,
-    };
-    match asked.answer(alloc) {
-        Ok(answer) => Ok(answer),
-        Err(error) => Err(answer_refusal(alloc, text, &document.style, error)),
-    }
-}
-
-/// What is wrong and odd in these texts, as a JSON object: `fault`, where a text is wrong, and the
-/// list `warnings`, of what was read otherwise than it stands in the texts, up to the fault. No
+/// What is wrong and odd in these texts, as a JSON object: `fault`, where a text is wrong;
+/// `faults`, the list of all that is wrong with the style, where that text is the style; and
+/// `warnings`, the list of what was read otherwise than it stands in the texts, up to the fault. No
 /// citation is written.
 ///
 /// # Errors
@@ -83,8 +64,11 @@ pub fn find_fault(alloc: Global, texts: CallTexts<'_>) -> Result<String, CallErr
         Ok(fault) => fault,
         Err(_) => return Err(CallError::OutOfMemory),
     };
+    let Ok(faults) = all_faults(alloc, texts, &fault) else {
+        return Err(CallError::OutOfMemory);
+    };
     let TextReader { warnings, .. } = reader;
-    match print_findings(alloc, fault, warnings) {
+    match print_findings(alloc, fault, faults, warnings) {
         Ok(text) => Ok(text),
         Err(_) => Err(CallError::OutOfMemory),
     }
@@ -107,11 +91,33 @@ fn first_fault(
     }
 }
 
+/// All that is wrong with the style, where the fault is at a place of it.
+fn all_faults(
+    alloc: Global,
+    texts: CallTexts<'_>,
+    fault: &Option<Fault>,
+) -> Result<Vec<Remark>, AllocError> {
+    match fault {
+        Some(
+            Fault {
+                remark: Remark {
+                    text: TextName::Style,
+                    place: TextPlace::Line { .. },
+                    ..
+                },
+                ..
+            },
+        ) => style_faults(alloc, texts.style),
+        _ => Ok(Vec::new(alloc)),
+    }
+}
+
 /// Reads these texts, and keeps nothing but warnings.
 fn checked(alloc: Global, reader: &mut TextReader, texts: CallTexts<'_>) -> Result<(), CallError> {
     let document = reader.document(texts)?;
-    match check_style(alloc, &document.style, document.part) {
+    let styling = &document.styling;
+    match check_style(alloc, &styling.style, styling.options.part) {
         Ok(()) => Ok(()),
-        Err(error) => Err(answer_refusal(alloc, texts.style, &document.style, error)),
+        Err(error) => Err(answer_refusal(alloc, texts.style, &styling.style, error)),
     }
 }

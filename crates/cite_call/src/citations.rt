@@ -11,7 +11,8 @@ use csl_references::reference::References;
 use std::alloc::Global;
 
 impl TextReader {
-    /// The citations of JSON, whose cites are of these items.
+    /// The citations of JSON, whose cites are of these items. Where some have the number of a
+    /// note, each has one.
     ///
     /// # Errors
     ///

@@ -3,7 +3,8 @@ use crate::remark::{Fault, ParentStyle, Remark, TextPlace};
 use serde_json::{Map, Value, put};
 use std::alloc::{AllocError, Global};
 
-/// A JSON object with the fault, if there is one, and the warnings.
+/// A JSON object with the fault, if there is one, with all faults, if there are some, and with the
+/// warnings.
 ///
 /// # Errors
 ///
@@ -11,6 +12,7 @@ use std::alloc::{AllocError, Global};
 pub(crate) fn print_findings(
     alloc: Global,
     fault: Option<Fault>,
+    faults: Vec<Remark>,
     warnings: Vec<Remark>,
 ) -> Result<String, AllocError> {
     let mut members = Map::new(alloc);
@@ -18,12 +20,24 @@ pub(crate) fn print_findings(
         let value = Value::Object(fault_members(alloc, fault)?);
         put(&mut members, alloc, "fault", value)?;
     }
-    let mut values = Vec::new(alloc);
-    for warning in warnings {
-        values.push(Value::Object(remark_members(alloc, warning)?))?;
+    if !faults.is_empty() {
+        put(&mut members, alloc, "faults", remark_list(alloc, faults)?)?;
     }
-    put(&mut members, alloc, "warnings", Value::Array(values))?;
+    put(
+        &mut members,
+        alloc,
+        "warnings",
+        remark_list(alloc, warnings)?,
+    )?;
     Value::Object(members).to_string(alloc)
+}
+
+fn remark_list(alloc: Global, remarks: Vec<Remark>) -> Result<Value, AllocError> {
+    let mut values = Vec::new(alloc);
+    for remark in remarks {
+        values.push(Value::Object(remark_members(alloc, remark)?))?;
+    }
+    Ok(Value::Array(values))
 }
 
 fn fault_members(alloc: Global, fault: Fault) -> Result<Map<String, Value>, AllocError> {

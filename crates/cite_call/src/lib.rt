@@ -15,4 +15,5 @@ mod options;
 mod reader;
 pub mod remark;
 mod style;
+mod styling;
 pub mod texts;

@@ -8,10 +8,12 @@ use std::fmt;
 #[derive(Drop)]
 pub(crate) struct TextReader {
     pub alloc: Global,
+    /// What is odd in the texts that were read, in their order.
     pub warnings: Vec<Remark>,
 }
 
 impl TextReader {
+    /// A reader that has read nothing.
     pub(crate) fn new(alloc: Global) -> TextReader {
         TextReader {
             alloc,

@@ -7,7 +7,7 @@ use std::alloc::{AllocError, Global};
 use style_faults::error::StyleError;
 use style_faults::warning::Warning;
 use style_file::style::{CslStyle, DependentStyle, StyleFile};
-use style_reader::file::read_style;
+use style_reader::file::{faults_in_file, read_style};
 use xml_reader::error::{Place, place_at};
 
 impl TextReader {
@@ -55,6 +55,35 @@ fn no_utf8(alloc: Global, bytes: &[u8], byte: usize) -> CallError {
         Ok(why) => refusal(alloc, TextName::Style, place, &why),
         Err(_) => CallError::OutOfMemory,
     }
+}
+
+/// All that is wrong with a style file, in the order of the places; nothing where the text is no
+/// UTF-8.
+///
+/// # Errors
+///
+/// Where memory is refused.
+pub(crate) fn style_faults(alloc: Global, bytes: &[u8]) -> Result<Vec<Remark>, AllocError> {
+    let mut remarks = Vec::new(alloc);
+    if let Ok(text) = str::from_utf8(bytes) {
+        for error in &faults_in_file(alloc, text)? {
+            remarks.push(style_remark(alloc, error)?)?;
+        }
+    }
+    Ok(remarks)
+}
+
+fn style_remark(alloc: Global, error: &StyleError) -> Result<Remark, AllocError> {
+    let (place, message) = match error {
+        StyleError::Malformed(fault, place) => (*place, format!(in alloc; "{fault}")?),
+        StyleError::Refused(fault, place) => (*place, format!(in alloc; "{fault}")?),
+        StyleError::OutOfMemory => return Err(AllocError),
+    };
+    Ok(Remark {
+        text: TextName::Style,
+        place: text_place(place),
+        message,
+    })
 }
 
 /// Why a text is no style file or no locale file.

@@ -20,7 +20,7 @@ impl<'a> fmt::Display for OneLine<'a> {
 }
 
 /// Whether a character has no look of its own, and turns the direction of others.
-fn is_direction(c: char) -> bool {
+pub fn is_direction(c: char) -> bool {
     matches!(
         c,
         '\u{61c}' | '\u{200e}' | '\u{200f}' | '\u{202a}'..='\u{202e}' | '\u{2066}'..='\u{2069}'

@@ -1,6 +1,6 @@
 //! Reads a document from standard input, and prints its citations and its bibliography.
 //!
-//! Where there is no answer, standard error gets one line that says why, and the exit status tells
+//! Where there is no answer, standard error gets one line that says why, and the exit status says
 //! it too.
 #![tactic(auto)]
 
@@ -13,7 +13,7 @@ use std::process::ExitCode;
 fn main(rt: HostRuntime) -> ExitCode {
     let result = match read_input(rt.alloc(), &mut rt.reader()) {
         Ok(bytes) => run(rt.alloc(), &bytes, &mut io::writer(&rt)),
-        // a reading that fails is a failed input for whatever cause, want of memory too
+        // a reading that fails is a failed input for whatever cause, lack of memory too
         Err(_) => Err(RunError::Output),
     };
     match result {

@@ -7,6 +7,7 @@ pub mod Distinct
 pub mod FirstOnes
 pub mod Seconds
 pub mod Groups
+pub mod Setting
 pub mod Growing
 pub mod Document
 pub mod Different

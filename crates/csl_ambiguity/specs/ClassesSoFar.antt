@@ -1,8 +1,8 @@
 -- For the code: the classes of the cites that were looked at, by their texts.
 use Rattle.std.specs.Prelude.{◌≡◌, ℕ, List, [], ◌∷◌, ◌++◌, map, length, Option, None, Some, bytes_eq, string_bytes, slice_index_or, slice_set, if◌then◌else◌}
 use Rattle.std.specs.List.{position_or_len}
-use Rattle.std.specs.HashMap.{get}
-use Rattle.std.specs.String.{string_eq}
+use Rattle.std.specs.BTreeMap.{get}
+use Rattle.std.specs.String.{string_cmp, string_eq}
 use Rattle.csl_passes.specs.Renders.{Place}
 use Rattle.csl_ambiguity.specs.Ambiguity.{class_of, classes, seconds}
 use Rattle.csl_ambiguity.specs.Members.{Member, place_of, shown_text}
@@ -13,7 +13,7 @@ use Rattle.csl_ambiguity.specs.declared.classes.Classes.{Classes}
 
 -- what is found of a text
 abbrev pub class_at : Classes → HeapText → Option Class
-class_at c text = get string_eq c.by_text text
+class_at c text = get string_cmp c.by_text text
 
 -- the groups as lists of places
 abbrev pub groups_in : Classes → List (List Place)

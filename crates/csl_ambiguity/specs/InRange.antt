@@ -1,7 +1,7 @@
 -- For the code: the groups that a map from texts leads to.
 use Rattle.std.specs.Prelude.{◌≡◌, ℕ, ◌<◌, Some, String}
-use Rattle.std.specs.HashMap.{HashMap, get}
-use Rattle.std.specs.String.{string_eq}
+use Rattle.std.specs.BTreeMap.{BTreeMap, get}
+use Rattle.std.specs.String.{string_cmp}
 use Rattle.std.specs.declared.alloc.Global.{Global}
 use Rattle.csl_ambiguity.specs.declared.classes.Class.{Class}
 use Rattle.csl_ambiguity.specs.declared.classes.Class.TheVariants.{Group}
@@ -11,6 +11,6 @@ abbrev pub HeapText : Type 0
 HeapText = String Global
 
 -- each is one of so many
-abbrev pub AreInRange : {S : Type 0} → HashMap HeapText Class S → ℕ → Type 0
-AreInRange by_text count = (text : HeapText) (i : ℕ) → get string_eq by_text text ≡ Some (Group i)
+abbrev pub AreInRange : BTreeMap HeapText Class → ℕ → Type 0
+AreInRange by_text count = (text : HeapText) (i : ℕ) → get string_cmp by_text text ≡ Some (Group i)
     → i < count

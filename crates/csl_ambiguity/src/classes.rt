@@ -4,7 +4,7 @@ ghost use Rattle.csl_ambiguity.specs.InRange.{AreInRange, HeapText};
 
 use csl_passes::renders::AmbiguousGroup;
 use std::alloc::{AllocError, Global};
-use std::collections::HashMap;
+use std::collections::BTreeMap;
 
 /// The cites of a text.
 #[derive(Clone, Copy)]
@@ -18,7 +18,7 @@ pub(crate) enum Class {
 /// The cites that were looked at, by their texts.
 #[derive(Drop)]
 pub(crate) struct Classes {
-    by_text: HashMap<String, Class>,
+    by_text: BTreeMap<String, Class>,
     /// The places of the cites of a text, where they are two or more, in the order of the second
     /// ones.
     pub(crate) groups: Vec<AmbiguousGroup>,
@@ -40,7 +40,7 @@ impl Classes {
         ensures at { (text : HeapText) → class_at result text ≡ None }
     {
         Classes {
-            by_text: HashMap::new(alloc),
+            by_text: BTreeMap::new(alloc),
             groups: Vec::new(alloc),
         }
     }

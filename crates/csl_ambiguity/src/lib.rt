@@ -1,5 +1,5 @@
-//! Cites that read alike though they cite different entries, and what tells them apart but names:
-//! the test of `disambiguate`, and suffixes of the year (CSL 1.0.2, disambiguation).
+//! Cites that read alike though they cite different entries, and what disambiguates them besides
+//! names: the test of `disambiguate`, and suffixes of the year (CSL 1.0.2, disambiguation).
 #![tactic(auto)]
 
 pub mod ambiguity;

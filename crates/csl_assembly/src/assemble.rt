@@ -185,7 +185,7 @@ fn enclosed(
 }
 
 /// The tree of a citation from its shown cites: empty where there is none. Each cite but the first
-/// stands behind its delimiter, if it has one; the layout's prefix and suffix stand around them
+/// follows its delimiter, if it has one; the layout's prefix and suffix stand around them
 /// where it encloses them, the suffix unless the last text ends with it. Empty texts give no child.
 ///
 /// # Errors

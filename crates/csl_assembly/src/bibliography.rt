@@ -260,7 +260,7 @@ pub(crate) fn bibliography_with(
 /// out. Each rendering is counted.
 ///
 /// # Errors
-/// The writer's; a want of memory among others.
+/// The writer's; lack of memory among others.
 pub fn bibliography_of<T: EntryLike, P: Drop, W: CiteWriter<T, P>>(
     alloc: Global,
     wanted: AcyclicBibliographyRequest<'_, '_, '_, T>,

@@ -1,5 +1,5 @@
-//! A bibliography whose items are written by means of their own, where works are told apart as CSL
-//! 1.0.2 has it.
+//! A bibliography whose items are written by means of their own, where works are disambiguated as
+//! CSL 1.0.2 has it.
 ghost use Rattle.std.specs.Prelude.{◌≡◌, ◌∷◌, [], IfOk, OnOk, length, map, string_bytes};
 ghost use Rattle.csl_style_values.specs.StyleView.{bibliography_view};
 ghost use Rattle.csl_lookup.specs.PropertiesView.{properties_view};
@@ -35,7 +35,7 @@ use csl_writers::pushed::push;
 use csl_writers::writer::CiteWriter;
 use std::alloc::Global;
 
-/// The means by which an item of a bibliography is told from others. Names aren't among them: the
+/// The means that disambiguate an item of a bibliography from others. Names aren't among them: the
 /// bibliography's own options say how these are written.
 #[derive(Clone, Copy, PartialEq, Eq)]
 pub struct ItemMeans {
@@ -138,15 +138,15 @@ fn items_by_means<T: EntryLike, P: Drop, W: CiteWriter<T, P>>(
     Ok(items)
 }
 
-/// The bibliography of a style, where works are told apart as CSL 1.0.2 has it: an item for each of
-/// the cites at these places, which are the first ones of its entries, in its order, by the means
-/// at the same index. Each is written by what holds of its cite, but without a locator, and of
-/// positions `subsequent` alone holds; then authors that repeat are replaced
+/// The bibliography of a style, where works are disambiguated as CSL 1.0.2 has it: an item for each
+/// of the cites at these places, which are the first ones of its entries, in its order, by the
+/// means at the same index. Each is written by what holds of its cite, but without a locator, and
+/// of positions `subsequent` alone holds; then authors that repeat are replaced
 /// (`substitute_repeated_authors`), and where second fields are aligned its first field is taken
 /// out. Each rendering is counted.
 ///
 /// # Errors
-/// The writer's; a want of memory among others.
+/// The writer's; lack of memory among others.
 pub fn bibliography_by_means<T: EntryLike, P: Drop, W: CiteWriter<T, P>>(
     alloc: Global,
     wanted: AcyclicBibliographyRequest<'_, '_, '_, T>,

@@ -121,7 +121,7 @@ pub(crate) fn shown_cites<'a, T: EntryLike, P: Drop, W: CiteWriter<T, P>>(
 /// are written too; each rendering is counted.
 ///
 /// # Errors
-/// The writer's; a want of memory among others.
+/// The writer's; lack of memory among others.
 pub fn citation_tree<'a, T: EntryLike, P: Drop, W: CiteWriter<T, P>>(
     alloc: Global,
     request: AcyclicRequest<'_, 'a, T, P>,

@@ -69,7 +69,7 @@ pub fn tree_by_purpose<T: EntryLike, P, W: CiteWriter<T, P>>(
 /// its properties with its own locator.
 ///
 /// # Errors
-/// The writer's; a want of memory among others.
+/// The writer's; lack of memory among others.
 pub fn last_tree<T: EntryLike, P: Drop, W: CiteWriter<T, P>>(
     alloc: Global,
     request: AcyclicRequest<'_, '_, T, P>,

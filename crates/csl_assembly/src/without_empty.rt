@@ -1,4 +1,4 @@
-//! The citation of a request, of which cites without content aren't shown.
+//! The citation of a request, where cites without content aren't shown.
 ghost use Rattle.std.specs.Prelude.{◌≡◌, IfOk, OnOk, filter};
 ghost use Rattle.csl_passes.specs.Renders.{CiteRender};
 ghost use Rattle.csl_passes.specs.RendersView.{items_view};
@@ -27,7 +27,7 @@ fn has_something(cite: &ShownCite<'_>) -> bool
     cite.tree.has_content()
 }
 
-/// Takes out the cites of which there is nothing to see.
+/// Takes out the cites that show nothing.
 fn remove_empty(cites: &mut Vec<ShownCite<'_>>)
     ensures { shown_views cites.new.items ≡ filter has_something (shown_views cites.old.items) }
 {
@@ -39,7 +39,7 @@ fn remove_empty(cites: &mut Vec<ShownCite<'_>>)
 /// shown there is neither a prefix nor a suffix. They are written too; each rendering is counted.
 ///
 /// # Errors
-/// The writer's; a want of memory among others.
+/// The writer's; lack of memory among others.
 pub fn citation_without_empty<'a, T: EntryLike, P: Drop, W: CiteWriter<T, P>>(
     alloc: Global,
     request: AcyclicRequest<'_, 'a, T, P>,

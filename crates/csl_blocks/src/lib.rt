@@ -1,5 +1,5 @@
 //! Cites of a request that have the same names stand together, and show their names once (CSL
-//! 1.0.2, cite grouping and cite collapsing), where works are told apart as CSL 1.0.2 has it.
+//! 1.0.2, cite grouping and cite collapsing), where works are disambiguated as CSL 1.0.2 has it.
 #![tactic(auto)]
 
 pub mod blocks;

@@ -47,9 +47,9 @@ pub struct BlockYear {
 }
 
 /// What collapsing the years of parts makes of the cites of a request. Those that aren't the first
-/// of their part leave their names out, where they can be cut. The after-collapse delimiter stands
-/// behind a part of two or more; by `year` behind each, and, if the style has one, also between the
-/// cites of a part in which some cite has a locator.
+/// of their part leave their names out, where they can be cut. The after-collapse delimiter follows
+/// a part of two or more; by `year` it follows each, and, if the style has one, it also stands
+/// between the cites of a part where some cite has a locator.
 ///
 /// # Errors
 ///
@@ -63,7 +63,7 @@ pub fn years_of_parts(
 {
     let located = located_parts(alloc, cites)?;
     let mut before: Option<BlockCite> = None;
-    // Whether the after-collapse delimiter stands behind the part that ends before the next cite.
+    // Whether the after-collapse delimiter follows the part that ends before the next cite.
     let mut collapses = false;
     let mut found = Vec::with_capacity(alloc, cites.len())?;
     for cite in cites {
@@ -86,8 +86,8 @@ fn in_one_part(before: Option<BlockCite>, cite: &BlockCite) -> bool
     }
 }
 
-/// Whether the after-collapse delimiter stands behind a part whose last cite comes behind another
-/// of it, or doesn't.
+/// Whether the after-collapse delimiter follows a part whose last cite comes behind another of it,
+/// or doesn't.
 fn collapses_behind(how: YearCollapse, follows: bool) -> bool
     ensures { result ≡ (how.by_year || follows) }
 {
@@ -95,7 +95,7 @@ fn collapses_behind(how: YearCollapse, follows: bool) -> bool
 }
 
 /// A cite, by whether it comes behind another of its part, whether the after-collapse delimiter
-/// stands behind the part before its own, and whether some cite of its part has a locator.
+/// follows the part before its own, and whether some cite of its part has a locator.
 fn year_by(
     how: YearCollapse,
     cite: &BlockCite,

@@ -20,7 +20,7 @@ use csl_writers::task::CiteTask;
 use csl_writers::writer::CiteWriter;
 use std::alloc::Global;
 
-/// Whether something tells a mention apart.
+/// Whether something disambiguates a mention.
 fn is_told(state: &MentionState) -> bool
     ensures { result ≡ is_told state.now }
 {

@@ -1,4 +1,4 @@
-//! The means by which a mention is told from others, as a writer of cites is told them.
+//! The means that disambiguate a mention from others, as a writer of cites is given them.
 ghost use Rattle.std.specs.Prelude.{◌≡◌, IfOk, None};
 ghost use Rattle.csl_cited_mentions.specs.ToldMeans.{means_of, with_ibid, with_means};
 ghost use Rattle.csl_lookup.specs.PropertiesView.{properties_view};

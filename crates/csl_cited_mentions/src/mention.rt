@@ -8,7 +8,7 @@ use csl_lookup::properties::CiteProperties;
 use std::alloc::AllocError;
 
 /// A mention of an entry, as a cite that a writer is asked for: of the entry, in the style of its
-/// home with its locales, by what is known of the cite where nothing tells it apart.
+/// home with its locales, by what is known of the cite where nothing disambiguates it.
 pub struct CiteMention<'t, 'p, T, P> {
     pub source: StyleLocales<'t>,
     pub entry: &'t T,

@@ -192,7 +192,7 @@ impl FlatFrames {
     }
 
     /// Puts a mark before the closing quote at the end of the topmost frame that has children.
-    /// Tells whether there is one.
+    /// Returns whether there is one.
     ///
     /// # Errors
     ///

@@ -18,7 +18,7 @@ ghost use Rattle.std.specs.Prelude.{
 use std::alloc::{AllocError, Global};
 use std::marker::Model;
 
-/// Values one upon another, of which there is always one. Contracts see the list of them, from the
+/// Values one upon another. There is always at least one. Contracts see the list of them, from the
 /// bottom to the top.
 #[derive(Drop)]
 pub(crate) struct Pile<T> {

@@ -177,7 +177,7 @@ pub(crate) fn push_without_periods(text: &mut String, s: &str) -> Result<(), All
     Ok(())
 }
 
-/// Puts a mark before the closing quote at the text's end. Tells whether there is one.
+/// Puts a mark before the closing quote at the text's end. Returns whether there is one.
 pub(crate) fn pull(
     text: &mut String,
     quotes: ClosingQuotes<'_>,

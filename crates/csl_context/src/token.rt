@@ -1,4 +1,4 @@
-//! What tells how high a stack was before something was put on it.
+//! What records how high a stack was before something was put on it.
 ghost use Rattle.std.specs.Prelude.{◌<◌};
 ghost use Rattle.csl_values.specs.Tells.{TellsEqual};
 

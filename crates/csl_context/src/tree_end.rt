@@ -167,7 +167,7 @@ fn pull_in_only(
     pull_in_child(alloc, &mut tree.0[0], quotes, mark)
 }
 
-/// Puts a mark before the closing quote at the end of a tree. Tells whether there is one.
+/// Puts a mark before the closing quote at the end of a tree. Returns whether there is one.
 pub(crate) fn pull_in_tree(
     alloc: Global,
     tree: &mut ElemChildren,

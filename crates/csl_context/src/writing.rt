@@ -232,8 +232,8 @@ impl<'a> WritingContext<'a> {
         }
     }
 
-    // Puts a mark before the closing quote of the text that may pull it in. Tells whether there is
-    // one.
+    // Puts a mark before the closing quote of the text that may pull it in. Returns whether there
+    // is one.
     fn pull_mark(&mut self, quotes: ClosingQuotes<'_>, mark: &str) -> Result<bool, AllocError>
         ensures moved { IfOk result (λ moved. moved
             ≡ option_map_or (ends_quoted (quotes_view quotes.entry))

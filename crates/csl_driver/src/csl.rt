@@ -1,4 +1,4 @@
-//! The whole answer where works are told apart as CSL 1.0.2 has it.
+//! The whole answer where works are disambiguated as CSL 1.0.2 has it.
 ghost use Rattle.std.specs.Prelude.{◌≡◌, IfOk, OnOk, map};
 ghost use Rattle.csl_arranging.specs.Requests.{requests_view as all_arranged_view};
 ghost use Rattle.csl_driver.specs.AreCitesOf.{AreCitesOf};
@@ -36,8 +36,8 @@ use csl_writers::writer::CiteWriter;
 use std::alloc::Global;
 
 impl<'d, 'o, 'a, T: EntryLike, P: Eq + Drop> Draft<'d, 'o, 'a, T, P> {
-    /// The answer, and its account. The mentions of all entries are told apart; by these the cites
-    /// are brought into their final order, numbered and collapsed; then the bibliography is
+    /// The answer, and its account. The mentions of all entries are disambiguated; by these the
+    /// cites are brought into their final order, numbered and collapsed; then the bibliography is
     /// written, and the citations.
     pub(crate) fn finish_csl<W: CiteWriter<T, P>>(
         self,
@@ -68,8 +68,8 @@ impl<'d, 'o, 'a, T: EntryLike, P: Eq + Drop> Draft<'d, 'o, 'a, T, P> {
         Ok((rendered, account))
     }
 
-    /// What tells the mentions of all entries apart, as this writer writes them; the requests, their
-    /// cites in the final order; and these cites, of which nothing is written yet.
+    /// What disambiguates the mentions of all entries, as this writer writes them; the requests,
+    /// their cites in the final order; and these cites, before anything of them is written.
     fn told_in_order<W: CiteWriter<T, P>>(
         self,
         alloc: Global,
@@ -117,7 +117,7 @@ impl<'d, 'o, 'a, T: EntryLike, P: Eq + Drop> Draft<'d, 'o, 'a, T, P> {
         Ok((told, ordered, cites))
     }
 
-    /// What tells the mentions of all entries apart, as this writer writes them.
+    /// What disambiguates the mentions of all entries, as this writer writes them.
     fn told_apart<'t, 'p, W: CiteWriter<T, P>>(
         self,
         alloc: Global,

@@ -1,4 +1,4 @@
-//! What an answer cost in which works are told apart as CSL 1.0.2 has it, and by what they are.
+//! What an answer cost where works are disambiguated as CSL 1.0.2 has it, and by what they are.
 ghost use Rattle.std.specs.Prelude.{◌≡◌, true, false, if◌then◌else◌, IfOk, is_some, map};
 ghost use Rattle.std.specs.List.{list_any};
 ghost use Rattle.csl_driver.specs.CslAccount.{entries_told, every_second};
@@ -13,20 +13,20 @@ use csl_tables::tables::Told;
 use csl_writers::counter::Renders;
 use std::alloc::{AllocError, Global};
 
-/// The account of an answer in which works are told apart as CSL 1.0.2 has it. All lists are
+/// The account of an answer where works are disambiguated as CSL 1.0.2 has it. All lists are
 /// equally long, and have what belongs to one entry at the same index.
 #[derive(Drop)]
 pub struct CslAccount<'a, T> {
     /// The renderings that were made; the greatest `u128` where there were more.
     pub renders: u128,
-    /// How many of names, the condition `disambiguate` and year suffixes told something apart: 0 to
-    /// 3.
+    /// How many of names, the condition `disambiguate` and year suffixes disambiguated something: 0
+    /// to 3.
     pub rounds: u128,
     /// The distinct entries, each as it is cited first, in the order of the bibliography.
     pub entries: Vec<&'a T>,
-    /// What tells their first mentions apart.
+    /// What disambiguates their first mentions.
     pub first_mentions: Vec<MentionState>,
-    /// What tells their later mentions apart.
+    /// What disambiguates their later mentions.
     pub later_mentions: Vec<MentionState>,
     /// The suffixes of their years, from 0 for `a`; none where they have none.
     pub suffixes: Vec<Option<usize>>,
@@ -35,7 +35,7 @@ pub struct CslAccount<'a, T> {
 }
 
 impl<'d, 'o, 'a, T: EntryLike, P> Draft<'d, 'o, 'a, T, P> {
-    /// The account of an answer, by what told its mentions apart, after so many renderings. The
+    /// The account of an answer, by what disambiguated its mentions, after so many renderings. The
     /// numbers are those of the entries, in the order of the bibliography.
     pub(crate) fn csl_account(
         self,
@@ -90,7 +90,7 @@ impl<'d, 'o, 'a, T: EntryLike, P> Draft<'d, 'o, 'a, T, P> {
     }
 }
 
-/// How many of names, choices and suffixes told something apart.
+/// How many of names, choices and suffixes disambiguated something.
 fn rounds_of(states: &[MentionState], suffixes: &[Option<usize>]) -> u128
     ensures { result ≡ rounds_of states.now suffixes.now }
 {
@@ -136,7 +136,7 @@ fn any_is_some(suffixes: &[Option<usize>]) -> bool
     false
 }
 
-/// The states of first mentions, and those of later ones, each of which stands behind its first.
+/// The states of first mentions, and those of later ones. Each later one follows its first.
 fn parted(
     alloc: Global,
     states: Vec<MentionState>,

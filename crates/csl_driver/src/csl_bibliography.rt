@@ -1,4 +1,4 @@
-//! The bibliography of an answer where works are told apart as CSL 1.0.2 has it.
+//! The bibliography of an answer where works are disambiguated as CSL 1.0.2 has it.
 ghost use Rattle.std.specs.Prelude.{◌≡◌, IfOk, OnOk, length, option_map};
 ghost use Rattle.csl_assembly.specs.ByMeans.{
   bibliography_by_means,

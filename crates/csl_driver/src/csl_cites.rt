@@ -1,4 +1,4 @@
-//! The cites of all requests as they are arranged once mentions are told apart.
+//! The cites of all requests as they are arranged once mentions are disambiguated.
 ghost use Rattle.std.specs.Prelude.{◌≡◌, IfOk, OnOk, length, map};
 ghost use Rattle.csl_arranging.specs.Arranged.{arranged_cites};
 ghost use Rattle.csl_arranging.specs.Requests.{requests_view as all_arranged_view};
@@ -54,7 +54,7 @@ pub(crate) type OrderedRequest<'d, 'a, P> = CiteRequest<FinalCite<&'d SpecificLo
 
 impl<'d, 'o, 'a, T: EntryLike, P: Eq + Drop> Draft<'d, 'o, 'a, T, P> {
     /// The requests, their cites in the final order, with what cites show that repeat others, as
-    /// this writer writes their mentions; and these cites, of which nothing is written yet. The
+    /// this writer writes their mentions; and these cites, before anything of them is written. The
     /// notes are those of the requests' cites.
     pub(crate) fn cites_in_order<'t, 'p, W: CiteWriter<T, P>>(
         self,

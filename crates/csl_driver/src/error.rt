@@ -40,7 +40,7 @@ pub fn error_equality_decides()
 pub enum FinishError<X: Drop> {
     /// The driver refuses.
     Driver(DriverError),
-    /// The writer refuses; a want of memory while the answer is made is reported as its error too.
+    /// The writer refuses; lack of memory while the answer is made is reported as its error too.
     Writer(X),
 }
 
@@ -80,7 +80,7 @@ impl From<AllocError> for DriverError {
     }
 }
 
-/// A request that the driver couldn't take for want of memory, handed back unchanged.
+/// A request that the driver couldn't take for lack of memory, handed back unchanged.
 #[derive(Drop)]
 pub struct CitationRefused<'a, T, P> {
     pub request: CitationRequest<'a, T, P>,

@@ -76,7 +76,7 @@ impl<'a, T: EntryLike, P: Eq + Drop> BibliographyDriver<'a, T, P> {
         Ok(rendered)
     }
 
-    /// Answers all requests, as `finish` does, and tells what it cost and how its entries are
+    /// Answers all requests, as `finish` does, and reports what it cost and how its entries are
     /// numbered and disambiguated.
     ///
     /// The renderings are two for each cite of each request, hidden or not; one in each round that

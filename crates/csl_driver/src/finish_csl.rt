@@ -1,4 +1,4 @@
-//! The whole answer, from all requests at once, where works are told apart as CSL 1.0.2 has it.
+//! The whole answer, from all requests at once, where works are disambiguated as CSL 1.0.2 has it.
 ghost use Rattle.std.specs.Prelude.{◌≡◌, OnOk, IfErr};
 ghost use Rattle.csl_driver.specs.CslPromised.{IsCslAnswer};
 ghost use Rattle.csl_driver.specs.CslTasks.{csl_tasks};
@@ -22,13 +22,13 @@ use csl_writing::layout_writer::LayoutWriter;
 
 impl<'a, T: EntryLike, P: Eq + Drop> BibliographyDriver<'a, T, P> {
     /// Answers all requests: a citation for each, and the bibliography, where its style has one.
-    /// Works are told apart as CSL 1.0.2 has it (disambiguation); the account tells by what.
+    /// Works are disambiguated as CSL 1.0.2 has it (disambiguation); the account says by what.
     ///
     /// Each entry has two mentions: the first reads as its first cite, the later one as a cite that
-    /// names it again. Mentions of several entries that read alike are told apart by names, as the
-    /// style of each allows; then by the condition `disambiguate`, if they test it; and entries
+    /// names it again. Mentions of several entries that read alike are disambiguated by names, as
+    /// the style of each allows; then by the condition `disambiguate`, if they test it; and entries
     /// whose later mentions still read alike get year suffixes, in the order of the bibliography.
-    /// Each of the three is tried once, and every cite reads by what tells its mention apart.
+    /// Each of the three is tried once, and every cite reads by what disambiguates its mention.
     ///
     /// Cites whose names are shown alike are grouped; years, suffixes and numbers are collapsed,
     /// but not in a request with a purpose (CSL 1.0.2, cite grouping, cite collapsing). A cite that

@@ -41,14 +41,14 @@ pub fn answers_keep_laws<T: EntryLike, P: Eq>()
     collapsed_can_be_read_back::<T, P>();
 }
 
-/// A law of every answer in which works are told apart as CSL 1.0.2 has it, and of its account,
+/// A law of every answer where works are disambiguated as CSL 1.0.2 has it, and of its account,
 /// whatever is asked: the entries of the account are the distinct ones that are cited, in the order
 /// of the bibliography, with the numbers from the offset on, each once; entries whose later
 /// mentions read alike have suffixes that count them, if the style of one of them adds any, and all
-/// others have none; names that can tell mentions apart do; the condition holds exactly where a
+/// others have none; names that can disambiguate mentions do; the condition holds exactly where a
 /// mention tested it and read as one of another entry; states grow, and only what is ambiguous is
-/// told apart; each citation shows the cites of its request that aren't hidden, if there is
-/// something to see of them, and each is told all that the account has of it; what ranges hide can
+/// disambiguated; each citation shows the cites of its request that aren't hidden, if there is
+/// something to see of them, and each is given all that the account has of it; what ranges hide can
 /// be read back; and the renderings and rounds have bounds.
 pub fn csl_answers_keep_laws<T: EntryLike, P: Eq>()
     ensures { (writing : Writing T P) (job : Job T P) (r : Rendered × CslAccount T)

@@ -11,26 +11,26 @@ ghost use Rattle.csl_passes.specs.RequestView.{cites_view, entries_view, request
 use csl_base::entry::EntryLike;
 use csl_passes::item::CitationItem;
 use csl_passes::request::CitationRequest;
-use indexmap::IndexSet;
+use ordered_set::set::OrderedSet;
 use std::alloc::{AllocError, Global};
 
 /// The place of an entry, which is added where no equal one is there.
 fn place_entry<'a, T: EntryLike>(
-    entries: &mut IndexSet<&'a T>,
+    entries: &mut OrderedSet<&'a T>,
     entry: &'a T,
 ) -> Result<usize, AllocError>
     ensures added { OnOk result (entries_view entries.new.keys
         ≡ with_new T.eq (entries_view entries.old.keys) entry.now) }
     ensures placed { IfOk result (StandsAt T.eq (entries_view entries.new.keys) entry.now) }
 {
-    let (place, _) = entries.insert_full(entry)?;
+    let place = entries.insert(entry, entry)?;
     Ok(place)
 }
 
 /// The places of the entries of cites, which are added where no equal ones are there.
 fn place_items<'a, T: EntryLike, P>(
     alloc: Global,
-    entries: &mut IndexSet<&'a T>,
+    entries: &mut OrderedSet<&'a T>,
     items: &[CitationItem<'a, T, P>],
 ) -> Result<Vec<usize>, AllocError>
     ensures added { OnOk result (entries_view entries.new.keys
@@ -50,13 +50,13 @@ fn place_items<'a, T: EntryLike, P>(
 /// the place of its entry among these.
 #[derive(Drop)]
 pub struct EntryTable<'a, T: EntryLike> {
-    entries: IndexSet<&'a T>,
+    entries: OrderedSet<&'a T>,
     /// By request, and by place in it.
     places: Vec<Vec<usize>>,
 }
 
 impl<'a, T: EntryLike> EntryTable<'a, T> {
-    /// The table of all that requests cite. Each cite's entry is hashed once.
+    /// The table of all that requests cite.
     pub fn of_requests<P>(
         alloc: Global,
         requests: &[CitationRequest<'a, T, P>],
@@ -64,7 +64,7 @@ impl<'a, T: EntryLike> EntryTable<'a, T> {
         ensures { IfOk result
             (λ table. table_view table ≡ table_of T.eq (requests_view requests.now)) }
     {
-        let mut entries = IndexSet::new(alloc);
+        let mut entries = OrderedSet::new(alloc);
         let mut places = Vec::with_capacity(alloc, requests.len())?;
         for request in requests {
             let of_request = place_items(alloc, &mut entries, &request.items)?;
@@ -84,7 +84,7 @@ impl<'a, T: EntryLike> EntryTable<'a, T> {
     pub fn is_empty(&self) -> bool
         ensures { result ≡ (length (table_view self.now).entries == 0) }
     {
-        self.entries.len() == 0
+        self.entries.is_empty()
     }
 
     /// The entry at a place.
@@ -99,7 +99,7 @@ impl<'a, T: EntryLike> EntryTable<'a, T> {
     pub fn index_of(&self, entry: &'a T) -> Option<usize>
         ensures { result ≡ position (T.eq entry.now) (table_view self.now).entries }
     {
-        self.entries.get_index_of(&entry)
+        self.entries.index_of(&entry)
     }
 
     /// By request, and by place in it, the places of the entries of the cites.

@@ -115,7 +115,7 @@ impl Reader {
         })
     }
 
-    /// The span that the value tells, a list of one or two dates.
+    /// The span that the value gives, a list of one or two dates.
     fn date_parts(
         &mut self,
         place: &Place,
@@ -146,7 +146,7 @@ fn add_season(span: &mut DateSpan, season: YearPart) -> bool {
     is_year
 }
 
-/// The season that a text tells: one of the four by its number or its English name, or any other by
+/// The season that a text names: one of the four by its number or its English name, or any other by
 /// its own.
 fn season_of(text: String) -> YearPart {
     let number = text.as_str().parse::<i64>().ok();
@@ -171,7 +171,7 @@ struct DateMembers {
 }
 
 impl Reader {
-    /// The date that the text tells; none of an empty one.
+    /// The date that the text gives; none of an empty one.
     pub(crate) fn date_of_text(
         &mut self,
         place: &Place,
@@ -187,7 +187,7 @@ impl Reader {
         Ok(Some(reading.date))
     }
 
-    /// The date of a raw text or of a span, of which the raw text comes first.
+    /// The date of a raw text or of a span. The raw text goes first.
     fn told_date(
         &mut self,
         place: &Place,
@@ -270,7 +270,7 @@ impl Reader {
         })
     }
 
-    /// The date that the value tells, a text or an object; none of null.
+    /// The date that the value gives, a text or an object; none of null.
     pub(crate) fn date(
         &mut self,
         place: &Place,
@@ -308,7 +308,7 @@ struct NumbersReading {
     is_whole: bool,
 }
 
-/// The date of these numbers, of which a month and a day are 0 where they are absent.
+/// The date of these numbers. A month and a day are 0 where they are absent.
 fn partial_date(year: i64, month: i64, day: i64) -> NumbersReading {
     match i32::try_from(year) {
         Ok(year) if year != 0 => {

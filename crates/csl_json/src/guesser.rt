@@ -1,9 +1,9 @@
 //! Guesses at what an unknown name was meant to be.
 ghost use Rattle.std.specs.Prelude.{◌≤◌, max};
-ghost use Rattle.indexmap.specs.IndexMap.{index_map_len};
+ghost use Rattle.std.specs.BTreeMap.{btree_map_len};
 
-use indexmap::IndexMap;
 use std::alloc::{AllocError, Global};
+use std::collections::BTreeMap;
 use strsim::osa_distance;
 
 /// The longest name, in bytes, for which a guess is made.
@@ -18,7 +18,7 @@ pub(crate) struct Guesser {
     alloc: Global,
     known: Vec<&'static str>,
     /// The guesses that were made.
-    made: IndexMap<String, Option<&'static str>>,
+    made: BTreeMap<String, Option<&'static str>>,
 }
 
 /// The known name that differs from the word in case alone, or else the one that fewest edits make
@@ -48,13 +48,13 @@ impl Guesser {
         Guesser {
             alloc,
             known,
-            made: IndexMap::new(alloc),
+            made: BTreeMap::new(alloc),
         }
     }
 
     /// The known name that the word may have been meant to be.
     pub(crate) fn guess(&mut self, word: &str) -> Result<Option<&'static str>, AllocError>
-        ensures { index_map_len self.new.made ≤ max (index_map_len self.old.made) MOST_GUESSES }
+        ensures { btree_map_len self.new.made ≤ max (btree_map_len self.old.made) MOST_GUESSES }
     {
         if word.len() > LONGEST_GUESSED {
             return Ok(None);

@@ -42,7 +42,7 @@ fn take_parts(alloc: Global, person: &mut PersonName, object: &Value) -> Result<
     person.remove_quotes(alloc)
 }
 
-/// The name that a note tells, as `Family || Given`, or else as it stands.
+/// The name that a note gives, as `Family || Given`, or else as it stands.
 ///
 /// # Errors
 /// Where memory is refused.

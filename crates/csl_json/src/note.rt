@@ -106,7 +106,7 @@ impl Reader {
     }
 }
 
-/// What the beginning of a note says of variables, and what stands behind that.
+/// What the beginning of a note says of variables, and what follows that.
 fn lines_of(alloc: Global, note: &str) -> Result<(Vec<NoteLine<'_>>, &str), AllocError> {
     let mut lines = Vec::new(alloc);
     let mut rest = note;
@@ -121,7 +121,7 @@ fn lines_of(alloc: Global, note: &str) -> Result<(Vec<NoteLine<'_>>, &str), Allo
 }
 
 /// What a note says first of a variable, as a line `name: value` or as `{:name: value}`, and what
-/// stands behind that.
+/// follows that.
 fn first_line(note: &str) -> Option<(NoteLine<'_>, &str)> {
     let note = note.trim_start();
     let (line, behind) = match note.strip_prefix("{:") {

@@ -12,7 +12,6 @@ use crate::reader::{Reader, refusal};
 use crate::unkept::Unkept;
 use crate::warning::{Warning, WarningKind};
 use csl_references::reference::{Reference, References};
-use indexmap::IndexMap;
 use serde_json::{Map, Value};
 use std::alloc::{AllocError, Global};
 
@@ -45,11 +44,10 @@ impl Reader {
     fn items(&mut self, place: &Place, items: &[Value]) -> Result<References, ReferencesError>
         ensures { Faults result place.now (array (items_view items.now)) }
     {
-        let mut references = IndexMap::new(self.alloc);
+        let mut references = References::new(self.alloc);
         for index in 0..items.len() {
             if let Some(reference) = self.item_at(place, items, index)? {
-                let id = reference.id.clone()?;
-                if references.insert(id, reference)?.is_some() {
+                if references.insert(reference)?.is_some() {
                     self.warn(&place.item(index), WarningKind::RepeatedId)?;
                 }
             }
@@ -103,7 +101,7 @@ impl Reader {
 /// Zotero's web interface writes it. Of items with the same id the last stays.
 ///
 /// # Errors
-/// The first fault of an item, in the order of the items; a want of memory.
+/// The first fault of an item, in the order of the items; a lack of memory.
 pub fn references_of(alloc: Global, value: &Value) -> Result<ReadReferences, ReferencesError>
     ensures { IfErr result (λ e. IsErrorOf e (view value.now)) }
 {
@@ -156,7 +154,7 @@ fn value_of(alloc: Global, bytes: &[u8]) -> Result<Value, ReferencesError>
 ///
 /// # Errors
 /// Where the bytes are no UTF-8 or no JSON; the first fault of an item, in the order of the items;
-/// a want of memory.
+/// a lack of memory.
 pub fn read_references(alloc: Global, bytes: &[u8]) -> Result<ReadReferences, ReferencesError>
     ensures { IfErr result (λ e. IsErrorIn e bytes.now) }
 {

@@ -1,10 +1,10 @@
 //! What a JSON value doesn't keep of its text: keys that stand twice in an object, and how numbers
 //! are written that are no integers of 64 bits.
 use crate::fault::{Pointer, Step};
-use indexmap::IndexMap;
 use json::{Reader, Scratch, Token};
 use serde_json::Number;
 use std::alloc::{AllocError, Global};
+use std::collections::BTreeMap;
 
 /// How many lists and objects may be open at once. A text in which there are more is no JSON here.
 const MAX_DEPTH: usize = 127;
@@ -23,7 +23,7 @@ impl Unkept {
         Unkept {
             repeated_keys: Vec::new(alloc),
             number_texts: NumberTexts {
-                texts: IndexMap::new(alloc),
+                texts: BTreeMap::new(alloc),
             },
         }
     }
@@ -79,7 +79,7 @@ fn unkept_of<'t>(
 #[derive(Drop)]
 pub struct NumberTexts {
     /// By the pointers to the numbers.
-    texts: IndexMap<String, String>,
+    texts: BTreeMap<String, String>,
 }
 
 impl NumberTexts {

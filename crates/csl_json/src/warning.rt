@@ -30,7 +30,7 @@ pub enum WarningKind {
     EmptyName,
     /// The name has a literal, so its other parts were left out.
     PartsBesideLiteral,
-    /// The date has nothing that tells it, so it was left out.
+    /// The date is empty, so it was left out.
     EmptyDate,
     /// The date is not kept as a whole: what no date of CSL has was left out.
     CutDate,

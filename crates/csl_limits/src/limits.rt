@@ -37,7 +37,7 @@ pub enum Excess {
     Elements,
 }
 
-/// A law: `==` of limits, and of which one is exceeded, is true exactly of equal values.
+/// A law: `==` of `Limits` and of `Excess` is true exactly of equal values.
 pub fn limits_equality_decides()
     ensures limits { TellsEqual ⟦<Limits as PartialEq>⟧.eq }
     ensures excess { TellsEqual ⟦<Excess as PartialEq>⟧.eq }

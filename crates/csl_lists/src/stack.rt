@@ -38,7 +38,7 @@ ghost use Rattle.csl_lists.specs.Stack.{
 use std::alloc::{AllocError, AllocFailed, Global};
 use std::marker::Model;
 
-/// Items one upon another, of which there is always one. Contracts see the list of them, from the
+/// Items one upon another. There is always at least one. Contracts see the list of them, from the
 /// bottom to the top.
 #[derive(Drop)]
 pub struct NonEmptyStack<T> {

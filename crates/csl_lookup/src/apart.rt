@@ -6,6 +6,6 @@
 pub enum Apart {
     /// Words stand before it alone.
     Before,
-    /// Words stand behind it, or its author is left out.
+    /// Words follow it, or its author is left out.
     Both,
 }

@@ -123,7 +123,7 @@ pub fn equality_decides<P: PartialEq>()
         → TellsSeen properties_view ⟦<CiteProperties<'static, P> as PartialEq>⟧.eq }
 {}
 
-/// A law: at first a cite has written no identifier, nothing tells its entry apart, and it stands
+/// A law: at first a cite has written no identifier, nothing disambiguates its entry, and it stands
 /// in no note, neither near another nor first, at place 0.
 pub fn defaults_are_none()
     ensures usage { (u : IdentifierUsage) → ⟦<IdentifierUsage as Default>⟧.is_default u

@@ -1,4 +1,4 @@
-//! The means that tell an entry from others where they are taken together (CSL 1.0.2,
+//! The means that disambiguate an entry from others where they are taken together (CSL 1.0.2,
 //! disambiguation).
 ghost use Rattle.std.specs.Prelude.{◌≡◌, IfOk, option_map, slice_get, unwrap_or};
 ghost use Rattle.csl_lookup.specs.Means.{
@@ -17,9 +17,9 @@ use csl_base::names::{DisambiguatedNameForm, NameDisambiguationProperties};
 use csl_base::seq::Seq;
 use std::alloc::{AllocError, Global};
 
-/// The means that tell the entry of a cite from others, where they are taken together, as CSL takes
-/// them. In the other modes there are none of these, and the one means is the state.
-#[derive(PartialEq, Eq, Hash, Drop)]
+/// The means that disambiguate the entry of a cite from others, where they are taken together, as
+/// CSL takes them. In the other modes there are none of these, and the one means is the state.
+#[derive(PartialEq, Eq, PartialOrd, Ord, Hash, Drop)]
 pub struct Means {
     /// The least forms of its first names.
     pub names: Option<NameDisambiguationProperties>,
@@ -73,7 +73,7 @@ impl Clone for Means {
     }
 }
 
-// The greater of a form and of the one that is told at its place, if any.
+// The greater of a form and of the one that is given at its place, if any.
 fn at_least(
     told: Option<&DisambiguatedNameForm>,
     form: DisambiguatedNameForm,
@@ -93,7 +93,7 @@ fn form_at(forms: &[DisambiguatedNameForm], i: usize) -> Option<&DisambiguatedNa
     forms.get(i)
 }
 
-// These forms, each at least the one that is told at its place.
+// These forms, each at least the one that is given at its place.
 fn raised_forms(
     alloc: Global,
     least: &[DisambiguatedNameForm],
@@ -127,9 +127,10 @@ fn forms_in(
     Ok(Some(Seq::new(all)))
 }
 
-/// What a cite in this state and with these means is told of its names, where the rules of its
-/// style give these forms: each is at least the one that the means have at its place; without names
-/// among the means the first ones are those of the state. None where neither has names.
+/// The forms of its names that a cite in this state and with these means is given, where the rules
+/// of its style give these forms: each is at least the one that the means have at its place;
+/// without names among the means the first ones are those of the state. None where neither has
+/// names.
 ///
 /// # Errors
 ///

@@ -27,7 +27,7 @@ pub(crate) fn term_by_tables<'a>(
     }
 }
 
-// The first of the style's own locales, of which most styles have none.
+// The first of the style's own locales. Most styles have none.
 fn own_term<'a>(
     prepared: PreparedSource<'a>,
     code: &str,

@@ -49,7 +49,7 @@ pub struct CiteProperties<'a, P> {
 }
 
 impl<'a, P> SpeculativeCiteProperties<'a, P> {
-    /// What is taken to hold of a cite before it was written: nothing tells its entry apart yet,
+    /// What is taken to hold of a cite before it was written: nothing disambiguates its entry yet,
     /// and no identifier was written.
     pub fn speculate(
         locator: Option<SpecificLocator<'a, P>>,

@@ -1,7 +1,7 @@
 //! What a cite is written for.
 
 /// How a cite is written, where that isn't the style's usual way.
-#[derive(Clone, Copy, PartialEq, Eq, Hash)]
+#[derive(Clone, Copy, PartialEq, Eq, PartialOrd, Ord, Hash)]
 pub enum CitePurpose {
     /// The author alone.
     Author,

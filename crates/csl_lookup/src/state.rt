@@ -12,7 +12,7 @@ ghost use Rattle.csl_lookup.specs.States.{
 use csl_base::names::NameDisambiguationProperties;
 
 /// Which identifiers of its entry a cite has written.
-#[derive(Clone, Copy, PartialEq, Eq, Hash, Default)]
+#[derive(Clone, Copy, PartialEq, Eq, PartialOrd, Ord, Hash, Default)]
 pub enum IdentifierUsage {
     /// None.
     #[default]
@@ -53,7 +53,7 @@ impl IdentifierUsage {
 
 /// By what means an entry is disambiguated from others whose cites read alike, from the least on
 /// (CSL 1.0.2, disambiguation).
-#[derive(Clone, PartialEq, Eq, Hash, Default, Drop)]
+#[derive(Clone, PartialEq, Eq, PartialOrd, Ord, Hash, Default, Drop)]
 pub enum DisambiguateState {
     /// By none.
     #[default]
@@ -96,7 +96,7 @@ impl DisambiguateState {
         }
     }
 
-    /// The suffix of the year that tells the entry apart, from 0; none in another state.
+    /// The suffix of the year that disambiguates the entry, from 0; none in another state.
     pub fn year_suffix(&self) -> Option<usize>
         ensures { result ≡ year_suffix self.now }
     {
@@ -130,7 +130,7 @@ impl DisambiguateState {
 }
 
 /// Whether a cite repeats the one before it (CSL 1.0.2, position).
-#[derive(Clone, Copy, PartialEq, Eq, Hash)]
+#[derive(Clone, Copy, PartialEq, Eq, PartialOrd, Ord, Hash)]
 pub enum IbidState {
     /// It doesn't: another entry, or only the cite before has a locator.
     Different,
@@ -141,7 +141,7 @@ pub enum IbidState {
 }
 
 /// How a cite is cut behind others of the same authors (CSL 1.0.2, cite collapsing).
-#[derive(Clone, Copy, PartialEq, Eq, Hash)]
+#[derive(Clone, Copy, PartialEq, Eq, PartialOrd, Ord, Hash)]
 pub enum CollapseVerdict {
     /// To its first date.
     First,

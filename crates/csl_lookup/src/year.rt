@@ -1,4 +1,4 @@
-//! Years, and the letters that tell entries of one year apart (CSL 1.0.2, AD and BC; year-suffix
+//! Years, and the letters that disambiguate entries of one year (CSL 1.0.2, AD and BC; year-suffix
 //! disambiguation).
 ghost use Rattle.std.specs.Prelude.{◌≡◌, ◌++◌, IsOk, OnOk, IfOk, string_bytes};
 ghost use Rattle.std.specs.Fmt.{WritesInCalls};

@@ -2,15 +2,17 @@
 use mathlib.Core.Bool.{or-false, or-true}
 use Rattle.std.proofs.Common.{◌≡◌, ℕ, ◌+◌, Bool, true, false, cond, not, ◌&&◌, ◌||◌, Some, None, Option, List, [], ◌∷◌, ◌++◌, length, refl, ap, sym, ◌∙◌, true≢false, arith}
 use Rattle.std.specs.Prelude.{bytes_eq, find, nat_eq, option_map}
-use Rattle.std.specs.HashMap.{HashMap, get}
+use Rattle.std.specs.BTreeMap.{BTreeMap, is_at}
+use Rattle.std.specs.Cmp.Lexicographic.{slice_cmp}
 use Rattle.std.specs.List.{enumerate_from, list_any}
 use Rattle.std.specs.Map.{lookup}
 use Rattle.std.specs.Option.{option_or}
+use Rattle.std.specs.Ordering.{nat_cmp}
 use Rattle.std.specs.Cmp.{nat_eq_equiv}
 use Rattle.std.proofs.lemmas.Bool.{eqb-true}
 use Rattle.std.proofs.lemmas.List.Folds.{find-append, list_any-append}
 use Rattle.csl_values.specs.Finds.{texts_find}
-use Rattle.csl_mentions.specs.Classes.{AreClassesOf, class_with, group_found, is_other}
+use Rattle.csl_mentions.specs.Classes.{AreClassesOf, class_at, class_with, group_found, is_other}
 use Rattle.csl_mentions.specs.Groups.{first_with, group_of, has_text, text_of}
 use Rattle.csl_mentions.specs.declared.classes.Class.{Class}
 use Rattle.csl_mentions.specs.declared.mention.Mention.{Mention}
@@ -60,8 +62,8 @@ other-grows k e entry (Some c) = by c.several (nat_eq c.entry e) refl
         ap (λ d. not (nat_eq c.entry entry) || not d) p ∙ or-false (not (nat_eq c.entry entry)) ∙ ap (λ x. not (nat_eq x entry)) same
         ∙ sym (ap (λ d. not d || not (nat_eq e entry)) p)
 
-module _ {S : Type 0} (old new : HashMap (List ℕ) Class S) (k : ℕ) (m : Mention)
-    (at : (t : List ℕ) → get bytes_eq new t ≡ cond (bytes_eq m.text t) (Some (class_with k m.entry (get bytes_eq old m.text))) (get bytes_eq old t)) where
+module _ (old new : BTreeMap (List ℕ) Class) (k : ℕ) (m : Mention)
+    (at : (t : List ℕ) → class_at new t ≡ cond (bytes_eq m.text t) (Some (class_with k m.entry (class_at old m.text))) (class_at old t)) where
   pub one-more : (before : List Mention) → length before ≡ k → AreClassesOf old before → AreClassesOf new (before ++ m ∷ [])
   one-more before long h = record {
     first = λ t. ap (option_map (λ c. c.first)) (at t) ∙ first t (bytes_eq m.text t) refl ∙ sym (first-push before m t);
@@ -69,13 +71,13 @@ module _ {S : Type 0} (old new : HashMap (List ℕ) Class S) (k : ℕ) (m : Ment
   }
     where
       first : (t : List ℕ) (b : Bool) → bytes_eq m.text t ≡ b
-          → option_map (λ c. c.first) (cond b (Some (class_with k m.entry (get bytes_eq old m.text))) (get bytes_eq old t))
+          → option_map (λ c. c.first) (cond b (Some (class_with k m.entry (class_at old m.text))) (class_at old t))
           ≡ option_or (first_with before t) (cond (bytes_eq t m.text) (Some (length before)) None)
       first t true p =
           let same : m.text ≡ t = texts_find.equal m.text t p in
           let own : bytes_eq t m.text ≡ true = ap (λ s. bytes_eq s m.text) (sym same) ∙ texts_find.self m.text in
-          first-kept k m.entry (get bytes_eq old m.text)
-          ∙ (λ i. option_or (option_map (λ c. c.first) (get bytes_eq old (same i))) (Some (sym long i)))
+          first-kept k m.entry (class_at old m.text)
+          ∙ (λ i. option_or (option_map (λ c. c.first) (class_at old (same i))) (Some (sym long i)))
           ∙ (λ i. option_or (h.first t i) (cond (sym own i) (Some (length before)) None))
       first t false p =
           h.first t ∙ none (first_with before t) ∙ ap (λ b. option_or (first_with before t) (cond b (Some (length before)) None)) (sym (texts-differ m.text t p))
@@ -85,32 +87,31 @@ module _ {S : Type 0} (old new : HashMap (List ℕ) Class S) (k : ℕ) (m : Ment
           none (Some x) = refl
 
       other : (t : List ℕ) (e : ℕ) (b : Bool) → bytes_eq m.text t ≡ b
-          → is_other e (cond b (Some (class_with k m.entry (get bytes_eq old m.text))) (get bytes_eq old t))
+          → is_other e (cond b (Some (class_with k m.entry (class_at old m.text))) (class_at old t))
           ≡ (list_any (λ n. bytes_eq t n.text && not (nat_eq e n.entry)) before || ((bytes_eq t m.text && not (nat_eq e m.entry)) || false))
       other t e true p =
           let same : m.text ≡ t = texts_find.equal m.text t p in
           let own : bytes_eq t m.text ≡ true = ap (λ s. bytes_eq s m.text) (sym same) ∙ texts_find.self m.text in
-          other-grows k e m.entry (get bytes_eq old m.text)
-          ∙ (λ i. is_other e (get bytes_eq old (same i)) || not (nat_eq e m.entry))
+          other-grows k e m.entry (class_at old m.text)
+          ∙ (λ i. is_other e (class_at old (same i)) || not (nat_eq e m.entry))
           ∙ (λ i. h.other t e i || not (nat_eq e m.entry))
           ∙ ap (λ c. list_any (λ n. bytes_eq t n.text && not (nat_eq e n.entry)) before || c) (sym (or-false _ ∙ ap (λ c. c && not (nat_eq e m.entry)) own))
       other t e false p =
           h.other t e
           ∙ sym (ap (λ c. list_any (λ n. bytes_eq t n.text && not (nat_eq e n.entry)) before || ((c && not (nat_eq e m.entry)) || false)) (texts-differ m.text t p) ∙ or-false _)
 
-module _ {S : Type 0} where
-  pub none-yet : (c : HashMap (List ℕ) Class S) → c.entries ≡ [] → AreClassesOf c []
-  none-yet c e = record {
-    first = λ t. ap (λ es. option_map (λ x. x.first) (lookup (bytes_eq t) es)) e;
-    other = λ t n. ap (λ es. is_other n (lookup (bytes_eq t) es)) e;
-  }
+pub none-yet : (c : BTreeMap (List ℕ) Class) → c.entries ≡ [] → AreClassesOf c []
+none-yet c e = record {
+  first = λ t. ap (λ es. option_map (λ x. x.first) (lookup (is_at (slice_cmp nat_cmp t)) es)) e;
+  other = λ t n. ap (λ es. is_other n (lookup (is_at (slice_cmp nat_cmp t)) es)) e;
+}
 
-  -- the group of a mention that has a text
-  pub group-is : (c : HashMap (List ℕ) Class S) (ms : List Mention) (m : Mention) → AreClassesOf c ms → has_text m ≡ true → group_found c m ≡ group_of ms m
-  group-is c ms m h e =
-      (λ i. cond (h.other m.text m.entry i) (h.first m.text i) None)
-      ∙ ap (λ b. cond (b && list_any (λ n. bytes_eq m.text n.text && not (nat_eq m.entry n.entry)) ms) (first_with ms m.text) None) (sym e)
+-- the group of a mention that has a text
+pub group-is : (c : BTreeMap (List ℕ) Class) (ms : List Mention) (m : Mention) → AreClassesOf c ms → has_text m ≡ true → group_found c m ≡ group_of ms m
+group-is c ms m h e =
+    (λ i. cond (h.other m.text m.entry i) (h.first m.text i) None)
+    ∙ ap (λ b. cond (b && list_any (λ n. bytes_eq m.text n.text && not (nat_eq m.entry n.entry)) ms) (first_with ms m.text) None) (sym e)
 
-  -- what it reads as
-  pub text-is : (c : HashMap (List ℕ) Class S) (ms : List Mention) (m : Mention) → AreClassesOf c ms → has_text m ≡ true → option_map (λ x. x.first) (get bytes_eq c m.text) ≡ text_of ms m
-  text-is c ms m h e = h.first m.text ∙ sym (ap (λ b. cond b (first_with ms m.text) None) e)
+-- what it reads as
+pub text-is : (c : BTreeMap (List ℕ) Class) (ms : List Mention) (m : Mention) → AreClassesOf c ms → has_text m ≡ true → option_map (λ x. x.first) (class_at c m.text) ≡ text_of ms m
+text-is c ms m h e = h.first m.text ∙ sym (ap (λ b. cond b (first_with ms m.text) None) e)

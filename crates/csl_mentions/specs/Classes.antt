@@ -1,7 +1,9 @@
 -- For the code: the mentions that were looked at, by their texts.
 use Rattle.std.specs.Prelude.{◌≡◌, ℕ, Bool, false, not, ◌&&◌, ◌||◌, List, Option, None, Some, bytes_eq, if◌then◌else◌, nat_eq, option_map}
-use Rattle.std.specs.HashMap.{HashMap, get}
+use Rattle.std.specs.BTreeMap.{BTreeMap, get}
+use Rattle.std.specs.Cmp.Lexicographic.{slice_cmp}
 use Rattle.std.specs.List.{list_any}
+use Rattle.std.specs.Ordering.{nat_cmp}
 use Rattle.csl_mentions.specs.Groups.{first_with}
 use Rattle.csl_mentions.specs.declared.classes.Class.{Class}
 use Rattle.csl_mentions.specs.declared.mention.Mention.{Mention}
@@ -24,15 +26,18 @@ is_other entry (Some c) = c.several || not (nat_eq c.entry entry)
 abbrev pub first_if : Bool → Option Class → Option ℕ
 first_if other c = if other then option_map (λ c. c.first) c else None
 
-module _ {S : Type 0} where
-  -- of each text: the first mention, and whether there is one of another entry than any
-  pub record AreClassesOf (classes : HashMap (List ℕ) Class S) (mentions : List Mention)
-      : Type 0 where
-    pub first : (t : List ℕ) → option_map (λ c. c.first) (get bytes_eq classes t)
-        ≡ first_with mentions t
-    pub other : (t : List ℕ) (entry : ℕ) → is_other entry (get bytes_eq classes t)
-        ≡ list_any (λ m. bytes_eq t m.text && not (nat_eq entry m.entry)) mentions
+-- what is known of a text
+abbrev pub class_at : BTreeMap (List ℕ) Class → List ℕ → Option Class
+class_at classes t = get (slice_cmp nat_cmp) classes t
 
-  abbrev pub group_found : HashMap (List ℕ) Class S → Mention → Option ℕ
-  group_found classes m = first_if (is_other m.entry (get bytes_eq classes m.text))
-      (get bytes_eq classes m.text)
+-- of each text: the first mention, and whether there is one of another entry than any
+pub record AreClassesOf (classes : BTreeMap (List ℕ) Class) (mentions : List Mention)
+    : Type 0 where
+  pub first : (t : List ℕ) → option_map (λ c. c.first) (class_at classes t)
+      ≡ first_with mentions t
+  pub other : (t : List ℕ) (entry : ℕ) → is_other entry (class_at classes t)
+      ≡ list_any (λ m. bytes_eq t m.text && not (nat_eq entry m.entry)) mentions
+
+abbrev pub group_found : BTreeMap (List ℕ) Class → Mention → Option ℕ
+group_found classes m = first_if (is_other m.entry (class_at classes m.text))
+    (class_at classes m.text)

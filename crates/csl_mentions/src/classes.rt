@@ -1,13 +1,12 @@
 //! What is known of the mentions that have a text.
-ghost use Rattle.std.specs.Prelude.{◌≡◌, ◌++◌, ◌∷◌, [], List, OnOk, Some, bytes_eq, length, option_map};
-ghost use Rattle.std.specs.HashMap.{get};
-ghost use Rattle.csl_mentions.specs.Classes.{AreClassesOf, class_with, first_if, group_found, is_other, joined};
+ghost use Rattle.std.specs.Prelude.{◌≡◌, ◌++◌, ◌∷◌, [], List, OnOk, Some, length, option_map};
+ghost use Rattle.csl_mentions.specs.Classes.{AreClassesOf, class_at, class_with, first_if, group_found, is_other, joined};
 ghost use Rattle.csl_mentions.specs.declared.mention.Mention.{Mention as MentionValue};
 
 use crate::mention::Mention;
 use csl_lists::text::Text;
 use std::alloc::AllocError;
-use std::collections::HashMap;
+use std::collections::BTreeMap;
 
 /// The mentions of a text.
 #[derive(Clone, Copy)]
@@ -21,7 +20,7 @@ pub(crate) struct Class {
 }
 
 /// The mentions that were looked at, by their texts.
-pub(crate) type Classes = HashMap<Text, Class>;
+pub(crate) type Classes = BTreeMap<Text, Class>;
 
 /// What is known once one that mentions this entry was added.
 fn joined(class: &Class, entry: usize) -> Class
@@ -36,7 +35,7 @@ fn joined(class: &Class, entry: usize) -> Class
 
 /// What is known of a mention's text once the mention was added, at index `k`.
 fn class_with(classes: &Classes, k: usize, mention: &Mention) -> Class
-    ensures { result ≡ class_with k mention.now.entry (get bytes_eq classes.now mention.now.text) }
+    ensures { result ≡ class_with k mention.now.entry (class_at classes.now mention.now.text) }
 {
     match classes.get(&mention.text) {
         Some(class) => joined(class, mention.entry),
@@ -61,7 +60,7 @@ pub(crate) fn add(classes: &mut Classes, k: usize, mention: &Mention) -> Result<
 
 /// The index of the first mention with this one's text.
 pub(crate) fn first_of(classes: &Classes, mention: &Mention) -> Option<usize>
-    ensures { result ≡ option_map (λ c. c.first) (get bytes_eq classes.now mention.now.text) }
+    ensures { result ≡ option_map (λ c. c.first) (class_at classes.now mention.now.text) }
 {
     match classes.get(&mention.text) {
         Some(class) => Some(class.first),

@@ -7,13 +7,13 @@ ghost use Rattle.csl_mentions.specs.declared.mention.Mention.{Mention as Mention
 use crate::classes::{Classes, add, first_of, group_found};
 use crate::mention::Mention;
 use std::alloc::{AllocError, Global};
-use std::collections::HashMap;
+use std::collections::BTreeMap;
 
 /// The mentions by their texts.
 pub(crate) fn classes_of(alloc: Global, mentions: &[Mention]) -> Result<Classes, AllocError>
     ensures { IfOk result (λ c. AreClassesOf c mentions.now) }
 {
-    let mut classes = HashMap::new(alloc);
+    let mut classes = BTreeMap::new(alloc);
     for (k, mention) in mentions.iter().enumerate() {
         add(&mut classes, k, mention)?;
     }

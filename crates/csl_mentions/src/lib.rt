@@ -1,5 +1,5 @@
-//! Mentions of entries, which are compared where works are told apart as CSL 1.0.2 has it
-//! (disambiguation): the groups that read alike, and what tells them apart beside names.
+//! Mentions of entries, which are compared where works are disambiguated as CSL 1.0.2 has it
+//! (disambiguation): the groups that read alike, and what disambiguates them besides names.
 #![tactic(auto)]
 
 mod classes;

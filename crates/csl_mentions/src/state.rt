@@ -1,7 +1,7 @@
-//! What tells a mention apart from others.
+//! What disambiguates a mention from others.
 use csl_values::names::NameDisambiguationProperties;
 
-/// What tells a mention apart from others, beside the year suffix, which is its entry's.
+/// What disambiguates a mention from others, besides the year suffix, which is its entry's.
 #[derive(Clone, PartialEq, Eq, Drop)]
 pub struct MentionState {
     /// The forms in which its names are written, if these aren't its style's own.

@@ -1,8 +1,8 @@
 -- Those who are held for one name, as one more comes in.
 use mathlib.Core.Bool.{or-true, or-false}
-use Rattle.std.proofs.Common.{◌≡◌, ◌+◌, ◌<◌, ℕ, append-nil, append_assoc, get_or, length, take, Bool, true, false, cond, not, ◌&&◌, ◌||◌, Some, slice_get, List, [], ◌∷◌, ◌++◌, refl, ap, sym, subst, ◌∙◌, arith}
+use Rattle.std.proofs.Common.{◌≡◌, ◌+◌, ◌<◌, ℕ, append-nil, append_assoc, get_or, length, take, Bool, true, false, cond, not, ◌&&◌, ◌||◌, None, Some, slice_get, List, [], ◌∷◌, ◌++◌, refl, ap, sym, subst, ◌∙◌, arith}
 use Rattle.std.specs.Prelude.{Vec}
-use Rattle.std.specs.HashMap.{HashMap, get}
+use Rattle.std.specs.BTreeMap.{BTreeMap, get, is_at}
 use Rattle.std.specs.Map.{lookup}
 use Rattle.std.specs.Option.{option_map_or}
 use Rattle.std.specs.List.{flat_map}
@@ -15,7 +15,7 @@ use Rattle.csl_values.specs.EqualEntries.{persons_find}
 use Rattle.csl_values.specs.Finds.{Finds, and-true, both, options_find, texts_find}
 use Rattle.csl_values.specs.declared.entry.Person.{Person}
 use Rattle.csl_passes.specs.Renders.{Place}
-use Rattle.csl_name_marks.specs.ByName.{AreByName, Grows, IsTold, holders, is_other, is_other_held, is_other_named, names_of, same_name, shown_by_all, shown_by}
+use Rattle.csl_name_marks.specs.ByName.{AreByName, Grows, IsTold, holders, is_other, is_other_held, is_other_named, name_cmp, names_of, same_name, shown_by_all, shown_by}
 use Rattle.csl_name_marks.specs.Persons.{same_person}
 use Rattle.csl_name_marks.specs.Steps.{same_place}
 use Rattle.csl_name_marks.specs.declared.by_name.Holder.{Holder}
@@ -101,7 +101,7 @@ module _ (q : Person) (place : Place) (hs : List Holder) where
       by p x false true e f = sym ((λ i. is_other_held p x hs || (not (e i) && not (f i))) ∙ or-false (is_other_held p x hs))
       by p x false false e f = h p x e f ∙ sym (ap (λ d. d || is_other p x one) (h p x e f))
 
-module _ {S : Type 0} (q : Person) (place : Place) (key : SharedName) (old new : HashMap SharedName (Vec Holder Global) S) (hs : List Holder) where
+module _ (q : Person) (place : Place) (key : SharedName) (old new : BTreeMap SharedName (Vec Holder Global)) (hs : List Holder) where
   -- one person more, by a name
   pub by-name-more : Grows q place (holders old key) hs → ((j : SharedName) → holders new j ≡ cond (same_name key j) hs (holders old j))
       → (so_far : List (SharedName × Holder)) → AreByName old so_far → AreByName new (so_far ++ (key, record { person = q; place = place }) ∷ [])
@@ -129,20 +129,29 @@ module _ {S : Type 0} (q : Person) (place : Place) (key : SharedName) (old new :
               h.tells name p x
               ∙ sym (ap (λ c. is_other_named name p x so_far || ((c && added) || false)) (names-differ key name s) ∙ or-false _)
 
-module _ {S : Type 0} where
-  -- holders that were taken out and put back as these
-  pub put-back : (new mid old : HashMap SharedName (Vec Holder Global) S) (name : SharedName) (v : Vec Holder Global)
-      → ((q : SharedName) → get same_name new q ≡ cond (same_name name q) (Some v) (get same_name mid q))
-      → ((q : SharedName) → holders mid q ≡ cond (same_name name q) [] (holders old q))
-      → (q : SharedName) → holders new q ≡ cond (same_name name q) v.items (holders old q)
-  put-back new mid old name v at rest q = ap (λ o. option_map_or (λ w. w.items) o []) (at q) ∙ by (same_name name q) (rest q)
-    where
-      by : (b : Bool) → holders mid q ≡ cond b [] (holders old q) → option_map_or (λ w. w.items) (cond b (Some v) (get same_name mid q)) [] ≡ cond b v.items (holders old q)
-      by true e = refl
-      by false e = e
+-- holders that were taken out and put back as these
+pub put-back : (new mid old : BTreeMap SharedName (Vec Holder Global)) (name : SharedName) (v : Vec Holder Global)
+    → ((q : SharedName) → get name_cmp new q ≡ cond (same_name name q) (Some v) (get name_cmp mid q))
+    → ((q : SharedName) → holders mid q ≡ cond (same_name name q) [] (holders old q))
+    → (q : SharedName) → holders new q ≡ cond (same_name name q) v.items (holders old q)
+put-back new mid old name v at rest q = ap (λ o. option_map_or (λ w. w.items) o []) (at q) ∙ by (same_name name q) (rest q)
+  where
+    by : (b : Bool) → holders mid q ≡ cond b [] (holders old q) → option_map_or (λ w. w.items) (cond b (Some v) (get name_cmp mid q)) [] ≡ cond b v.items (holders old q)
+    by true e = refl
+    by false e = e
 
-  pub none-by-name : (m : HashMap SharedName (Vec Holder Global) S) → m.entries ≡ [] → AreByName m []
-  none-by-name m e = record { tells = λ name p place. ap (λ es. is_other_held p place (option_map_or (λ w. w.items) (lookup (same_name name) es) [])) e }
+-- a name whose holders were taken out
+pub taken-out : (new old : BTreeMap SharedName (Vec Holder Global)) (name : SharedName)
+    → ((q : SharedName) → get name_cmp new q ≡ cond (same_name name q) None (get name_cmp old q))
+    → (q : SharedName) → holders new q ≡ cond (same_name name q) [] (holders old q)
+taken-out new old name at q = ap (λ o. option_map_or (λ w. w.items) o []) (at q) ∙ by (same_name name q)
+  where
+    by : (b : Bool) → option_map_or (λ w. w.items) (cond b None (get name_cmp old q)) [] ≡ cond b [] (holders old q)
+    by true = refl
+    by false = refl
+
+pub none-by-name : (m : BTreeMap SharedName (Vec Holder Global)) → m.entries ≡ [] → AreByName m []
+none-by-name m e = record { tells = λ name p place. ap (λ es. is_other_held p place (option_map_or (λ w. w.items) (lookup (is_at (name_cmp name)) es) [])) e }
 
 -- the persons of one more member
 pub shown-next : (group : List NamedCite) (k : ℕ) (x : NamedCite) → k < length group → x ≡ get_or group k x → shown_by_all (take k group) ++ shown_by x ≡ shown_by_all (take (k + 1) group)

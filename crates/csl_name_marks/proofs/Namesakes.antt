@@ -1,7 +1,7 @@
 -- A form raised among persons, from those who are held for their names.
 use Rattle.std.proofs.Common.{◌≡◌, Bool, true, false, not, cond, ◌&&◌, ◌||◌, List, [], ◌∷◌, ◌⊎◌, inl, inr, ap, filter, refl, sym, ◌∙◌}
 use Rattle.std.specs.Prelude.{Vec, bytes_eq}
-use Rattle.std.specs.HashMap.{HashMap}
+use Rattle.std.specs.BTreeMap.{BTreeMap}
 use Rattle.std.specs.List.{flat_map, list_any}
 use Rattle.std.specs.declared.alloc.Global.{Global}
 use Rattle.std.proofs.lemmas.List.Folds.{list_any-append}
@@ -116,7 +116,7 @@ module _ (p : Person) where
       by false s d = refl
 
   -- the form among the persons of others, from those who are held
-  fuller-by-name : {S : Type 0} (x : NamedCite) (group : List NamedCite) (by_name : HashMap SharedName (Vec Holder Global) S) (form : DisambiguatedNameForm)
+  fuller-by-name : (x : NamedCite) (group : List NamedCite) (by_name : BTreeMap SharedName (Vec Holder Global)) (form : DisambiguatedNameForm)
       → AreByName by_name (shown_by_all group)
       → fuller_by (is_other_held p x.place (holders by_name (by_family p))) (is_other_held p x.place (holders by_name (by_initials p))) form
       ≡ fuller p (filter (is_namesake p) (flat_map (λ y. y.persons) (others group x))) form
@@ -126,7 +126,7 @@ module _ (p : Person) where
       (λ i. fuller_by (family i) (initials i) form) ∙ sym (fuller-tested p (flat_map (λ y. y.persons) (others group x)) form)
 
   -- the form of a person that may be raised
-  pub raised-by-name : {S : Type 0} (x : NamedCite) (group : List NamedCite) (by_name : HashMap SharedName (Vec Holder Global) S) (form : DisambiguatedNameForm)
+  pub raised-by-name : (x : NamedCite) (group : List NamedCite) (by_name : BTreeMap SharedName (Vec Holder Global)) (form : DisambiguatedNameForm)
       → (form ≡ DisambiguatedNameForm.Short) ⊎ (form ≡ DisambiguatedNameForm.LongInitialized) → AreByName by_name (shown_by_all group)
       → fuller_by (is_other_held p x.place (holders by_name (by_family p))) (is_other_held p x.place (holders by_name (by_initials p))) form
       ≡ raised p (flat_map (λ y. y.persons) (others group x)) form

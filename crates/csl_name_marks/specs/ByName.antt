@@ -1,21 +1,26 @@
 -- For the code: the persons of the members of a group, by the names that they share.
 use Rattle.std.specs.Prelude.{◌≡◌, Bool, not, true, false, ◌&&◌, ◌||◌, List, [], ◌∷◌, ◌++◌, None, Some, Vec, bytes_eq, if◌then◌else◌}
-use Rattle.std.specs.HashMap.{HashMap, get}
+use Rattle.std.specs.BTreeMap.{BTreeMap, get}
 use Rattle.std.specs.List.{flat_map, list_any}
 use Rattle.std.specs.Option.{option_eq, option_map_or}
 use Rattle.std.specs.declared.alloc.Global.{Global}
+use Rattle.std.specs.declared.cmp.Ordering.{Ordering}
 use Rattle.csl_values.specs.Initials.{given_initials}
 use Rattle.csl_values.specs.declared.entry.Person.{Person}
 use Rattle.csl_values.specs.declared.names.DisambiguatedNameForm.{DisambiguatedNameForm}
 use Rattle.csl_passes.specs.Renders.{Place}
 use Rattle.csl_name_marks.specs.Persons.{same_person}
 use Rattle.csl_name_marks.specs.Steps.{same_place}
+use Rattle.csl_name_marks.specs.contracts.by_name.SharedNameOrd.TheImpl as name_ord
 use Rattle.csl_name_marks.specs.declared.by_name.Holder.{Holder}
 use Rattle.csl_name_marks.specs.declared.by_name.SharedName.{SharedName}
 use Rattle.csl_name_marks.specs.declared.named_cite.NamedCite.{NamedCite}
 
 abbrev pub same_name : SharedName → SharedName → Bool
 same_name a b = bytes_eq a.name b.name && option_eq bytes_eq a.initials b.initials
+
+abbrev pub name_cmp : SharedName → SharedName → Ordering
+name_cmp = (name_ord.ghosts).cmp
 
 abbrev pub by_family : Person → SharedName
 by_family p = record { name = p.name; initials = None }
@@ -71,23 +76,22 @@ Grows q place old new = (p : Person) (other : Place)
     → is_other_held p other new
     ≡ (is_other_held p other old || is_other p other (record { person = q; place = place }))
 
-module _ {S : Type 0} where
-  -- those who are held for a name
-  abbrev pub holders : HashMap SharedName (Vec Holder Global) S → SharedName → List Holder
-  holders by_name name = option_map_or (λ v. v.items) (get same_name by_name name) []
+-- those who are held for a name
+abbrev pub holders : BTreeMap SharedName (Vec Holder Global) → SharedName → List Holder
+holders by_name name = option_map_or (λ v. v.items) (get name_cmp by_name name) []
 
-  -- for each name they tell of other persons what all persons of that name do
-  pub record AreByName (by_name : HashMap SharedName (Vec Holder Global) S)
-      (shown : List (SharedName × Holder)) : Type 0 where
-    pub tells : (name : SharedName) (p : Person) (place : Place)
-        → is_other_held p place (holders by_name name) ≡ is_other_named name p place shown
+-- for each name they tell of other persons what all persons of that name do
+pub record AreByName (by_name : BTreeMap SharedName (Vec Holder Global))
+    (shown : List (SharedName × Holder)) : Type 0 where
+  pub tells : (name : SharedName) (p : Person) (place : Place)
+      → is_other_held p place (holders by_name name) ≡ is_other_named name p place shown
 
-  -- what was told by these names is now told by more
-  abbrev pub TellsMore : HashMap SharedName (Vec Holder Global) S
-      → HashMap SharedName (Vec Holder Global) S
-      → List (SharedName × Holder) → Type 0
-  TellsMore old new more = (shown : List (SharedName × Holder)) → AreByName old shown
-      → AreByName new (shown ++ more)
+-- what was told by these names is now told by more
+abbrev pub TellsMore : BTreeMap SharedName (Vec Holder Global)
+    → BTreeMap SharedName (Vec Holder Global)
+    → List (SharedName × Holder) → Type 0
+TellsMore old new more = (shown : List (SharedName × Holder)) → AreByName old shown
+    → AreByName new (shown ++ more)
 
 -- the form of a person: full where another one has its initials, else with initials where another
 -- one has its family name

@@ -23,10 +23,10 @@ use crate::steps::same_place;
 use csl_base::entry::Person;
 use csl_base::text::Text;
 use std::alloc::{AllocError, Global};
-use std::collections::HashMap;
+use std::collections::BTreeMap;
 
 /// What namesakes share: a family name, and those who have the same initials also these.
-#[derive(PartialEq, Eq, Hash, Drop)]
+#[derive(PartialEq, Eq, PartialOrd, Ord, Drop)]
 pub(crate) struct SharedName {
     pub(crate) name: Text,
     pub(crate) initials: Option<Text>,
@@ -39,9 +39,9 @@ pub(crate) struct Holder {
     pub(crate) place: (usize, usize),
 }
 
-/// For each shared name holders enough to tell, for any person and place, whether another person of
-/// that name is held elsewhere.
-pub(crate) type ByName = HashMap<SharedName, Vec<Holder>>;
+/// For each shared name enough holders to decide, for any person and place, whether another person
+/// of that name is held elsewhere.
+pub(crate) type ByName = BTreeMap<SharedName, Vec<Holder>>;
 
 /// Whether another person than this one is held elsewhere than at this place.
 fn is_other_held(holders: &[Holder], person: &Person, place: (usize, usize)) -> bool
@@ -55,7 +55,7 @@ fn is_other_held(holders: &[Holder], person: &Person, place: (usize, usize)) -> 
     false
 }
 
-/// Whether the holders tell all that a person at a place adds of others than this one.
+/// Whether the holders say all that a person at a place adds of others than this one.
 fn tells_without(holders: &[Holder], person: &Person, added: &Person, place: (usize, usize)) -> bool
     ensures { result ≡ true → TellWithout person.now added.now place holders.now }
 {
@@ -70,7 +70,7 @@ fn tells_without(holders: &[Holder], person: &Person, added: &Person, place: (us
     false
 }
 
-/// Whether the holders tell all that a person at a place adds elsewhere than at another place.
+/// Whether the holders say all that a person at a place adds elsewhere than at another place.
 fn tells_elsewhere(
     holders: &[Holder],
     elsewhere: (usize, usize),
@@ -91,7 +91,7 @@ fn tells_elsewhere(
 }
 
 /// Whether one more who holds a person at a place changes no answer. What the first holder doesn't
-/// tell is asked for that holder's person, or for that holder's place.
+/// say is asked for that holder's person, or for that holder's place.
 fn is_told(holders: &[Holder], person: &Person, place: (usize, usize)) -> bool
     ensures { result ≡ true → IsTold person.now place holders.now }
 {
@@ -194,7 +194,7 @@ fn add_member(alloc: Global, by_name: &mut ByName, member: &NamedCite) -> Result
 pub(crate) fn by_name(alloc: Global, group: &[NamedCite]) -> Result<ByName, AllocError>
     ensures { IfOk result (λ m. AreByName m (shown_by_all group.now)) }
 {
-    let mut by_name = HashMap::new(alloc);
+    let mut by_name = BTreeMap::new(alloc);
     for member in group {
         add_member(alloc, &mut by_name, member)?;
     }

@@ -18,11 +18,11 @@ use crate::cut::kept;
 use crate::named_cite::NamedCite;
 use csl_base::entry::Person;
 use csl_base::style::DisambiguationRule;
-use indexmap::IndexSet;
+use ordered_set::set::OrderedSet;
 use std::alloc::{AllocError, Global};
 
 /// What members share who read alike by one person more.
-#[derive(PartialEq, Eq, Hash, Drop)]
+#[derive(PartialEq, Eq, PartialOrd, Ord, Drop)]
 struct ClassKey {
     /// Their class by the persons before.
     class: usize,
@@ -56,13 +56,17 @@ pub(crate) fn next_classes(
     requires { AreClasses rule group.now i classes.now }
     ensures { IfOk result (λ v. AreClasses rule group.now (i + 1) v.items) }
 {
-    let mut keys = IndexSet::new(alloc);
+    let mut keys = OrderedSet::new(alloc);
     let mut found = Vec::new(alloc);
     for (k, member) in group.iter().enumerate() {
         let person = kept_at(alloc, rule, i, member.persons.as_slice())?;
+        let again = kept_at(alloc, rule, i, member.persons.as_slice())?;
         let class = classes[k];
-        let added = keys.insert_full(ClassKey { class, person })?;
-        found.push(added.0)?;
+        let copy = ClassKey {
+            class,
+            person: again,
+        };
+        found.push(keys.insert(ClassKey { class, person }, copy)?)?;
     }
     Ok(found)
 }

@@ -1,4 +1,4 @@
-//! The marks that tell the cites of an ambiguous group apart by their names (CSL 1.0.2,
+//! The marks that disambiguate the cites of an ambiguous group by their names (CSL 1.0.2,
 //! disambiguation).
 ghost use Rattle.std.specs.Prelude.{◌≡◌, fold, length, zip, All, IfOk, OnOk};
 ghost use Rattle.std.specs.List.{filter_map};
@@ -129,8 +129,8 @@ fn group_marks(alloc: Global, group: &[NamedCite], greatest: usize) -> Result<Ma
     member_marks(alloc, group, &by_name, &steps, &own_steps)
 }
 
-/// The marks that tell the cites of a group apart by more of their names, in the group's order. No
-/// marks for an empty group.
+/// The marks that disambiguate the cites of a group by more of their names, in the group's order.
+/// No marks for an empty group.
 ///
 /// A member whose state leaves room for more names is known by `i` names where its first `i`
 /// persons, cut by the rule of its style, differ from those of each other member. The least such

@@ -1,4 +1,4 @@
-//! How far given names are written to tell persons apart.
+//! How far given names are written to disambiguate persons.
 ghost use Rattle.std.specs.Prelude.{◌≡◌, IfOk, OnOk};
 ghost use Rattle.std.specs.List.{flat_map};
 ghost use Rattle.csl_name_marks.specs.ByName.{

@@ -98,7 +98,7 @@ fn is_near(distance: usize, note: Option<usize>, last: Option<usize>) -> bool
     }
 }
 
-/// Notes that a cite cites its entry, of which this was known before.
+/// Notes that a cite cites its entry. `before` is what was known of the entry.
 fn note(
     known: &mut HashMap<usize, Known>,
     cite: &HandedCite,

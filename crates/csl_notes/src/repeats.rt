@@ -50,7 +50,7 @@ struct NoteEntries {
 /// The positions of all cites, by request and by place in it. A cite may repeat the one directly
 /// before it in its request; the first one of a request may repeat the cite of the request
 /// directly before, where that has one cite alone and stands in no note, in the same note, or in
-/// a note of which no request cites another entry.
+/// a note where no request cites another entry.
 ///
 /// # Errors
 ///
@@ -223,7 +223,7 @@ fn cites_other(noted: &HashMap<usize, NoteEntries>, number: usize, entry: usize)
     }
 }
 
-/// The positions of the cites of a request, of which the first one may repeat this one.
+/// The positions of the cites of a request whose first one may repeat this one.
 fn positions_behind<L: PartialEq>(
     alloc: Global,
     outside: Option<&PlacedCite<L>>,

@@ -15,7 +15,7 @@ pub struct AcyclicRequest<'r, 'a, T, P> {
     pub ghost no_ring: { HasNoRing (request_view request.now).style.macros },
 }
 
-/// Requests of which none has a style with such macros.
+/// Requests whose styles have no macros that call each other in a ring.
 pub struct AcyclicRequests<'r, 'a, T, P> {
     pub requests: &'r [CitationRequest<'a, T, P>],
     pub ghost no_ring: { All (λ r. HasNoRing r.style.macros) (requests_view requests.now) },

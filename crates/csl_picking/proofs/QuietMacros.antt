@@ -1,7 +1,9 @@
 -- Macros that gave nothing, over plain data.
 use Rattle.std.proofs.Common.{◌≡◌, ℕ, List, [], ◌∷◌, length, nat_le, Bool, true, false, cond, ◌&&◌, ◌||◌, Option, Some, None, is_some, IfSome, refl, sym, ap, ◌∙◌, subst, rules}
 use Rattle.std.specs.Prelude.{nat_eq, bytes_eq}
-use Rattle.std.specs.Cmp.{unsigned_Decides, booleans_Decides}
+use Rattle.std.specs.Cmp.{unsigned_Decides, booleans_Decides, both_tied, unsigned_ties}
+use Rattle.std.specs.Cmp.Lexicographic.{slice_cmp, texts_ties}
+use Rattle.std.specs.Ordering.{is_eq, nat_cmp, ordering_then}
 use Rattle.csl_values.specs.Finds.{both, texts_find}
 use Rattle.csl_values.specs.declared.names.NameDisambiguationProperties.{NameDisambiguationProperties}
 use Rattle.csl_style_values.specs.Element.{Name}
@@ -68,6 +70,11 @@ known q n name depth None e at = search rules
 known q n name depth (Some c) e at = λ call h.
     let same = same_notes h.0 n (sym h.1 ∙ at) h.2 in
     subst (λ m. GivesNothing (call depth name) c m) same (h.3 name depth c (sym e))
+
+-- a name and a depth are found by their order where both are equal
+pub named_at : (name m : Name) (depth d : ℕ) → is_eq (ordering_then (slice_cmp nat_cmp name m) (nat_cmp depth d)) ≡ bytes_eq name m && nat_eq depth d
+named_at name m depth d =
+    sym (both_tied (bytes_eq name m) (nat_eq depth d) (slice_cmp nat_cmp name m) (nat_cmp depth d) (texts_ties name m) (unsigned_ties depth d))
 
 -- one macro more
 pub one_more : (call : ℕ → Call) (q more : QuietMacros) (n : Notes) (name : Name) (depth : ℕ) (c : Called)

@@ -1,6 +1,8 @@
 -- For the code: macros that are known to give nothing.
-use Rattle.std.specs.Prelude.{◌≡◌, ℕ, nat_eq, ◌&&◌, [], Option, Some, is_some, bytes_eq}
-use Rattle.std.specs.HashMap.{get_by}
+use Rattle.std.specs.Prelude.{◌≡◌, ℕ, [], Option, Some, is_some}
+use Rattle.std.specs.BTreeMap.{get_by}
+use Rattle.std.specs.Cmp.Lexicographic.{slice_cmp}
+use Rattle.std.specs.Ordering.{nat_cmp, ordering_then}
 use Rattle.csl_values.specs.declared.names.NameDisambiguationProperties.{NameDisambiguationProperties}
 use Rattle.csl_style_values.specs.Element.{Name}
 use Rattle.csl_picking.specs.declared.notes.Called.{Called}
@@ -34,7 +36,8 @@ GivesNothing call c n = (node : NodeValue)
 
 -- what the call of a macro at a depth counts as, where it is known
 abbrev pub told : QuietMacros → Name → ℕ → Option Called
-told q name depth = get_by (λ k. bytes_eq name k.0.now && nat_eq depth k.1) q.macros
+told q name depth =
+    get_by (λ k. ordering_then (slice_cmp nat_cmp name k.0.now) (nat_cmp depth k.1)) q.macros
 
 -- where no more is noted than was, each that is known gives nothing
 abbrev pub IsQuiet : (ℕ → Call) → QuietMacros → Notes → Type 0

@@ -63,7 +63,7 @@ fn holds<T: EntryLike>(input: &Input<T>, condition: Condition) -> bool
     }
 }
 
-/// Tests all conditions of a branch, and tells whether its test holds.
+/// Tests all conditions of a branch, and returns whether its test holds.
 pub fn passes<T: EntryLike>(
     input: &Input<T>,
     conditions: &[Condition],

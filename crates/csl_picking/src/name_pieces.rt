@@ -205,7 +205,7 @@ fn push_inner_name<'a>(
     push_name(block.variable, place, leaf, pieces)
 }
 
-// Adds the name that waits for one behind it, if one does, and tells how many are added then.
+// Adds the name that waits for one behind it, if one does, and returns how many are added then.
 fn push_waiting<'a>(
     rules: &NameRules<'a>,
     block: Block<'a, '_>,
@@ -229,8 +229,8 @@ fn push_waiting<'a>(
     }
 }
 
-// Adds the names that are written, with what stands between them, and tells whether there are any.
-// Each waits for the next one, since what stands before the last one is not what stands before
+// Adds the names that are written, with what stands between them, and returns whether there are
+// any. Each waits for the next one, since what stands before the last one is not what stands before
 // others.
 fn push_names<'a>(
     setting: &Setting<'a>,
@@ -269,7 +269,7 @@ fn push_names<'a>(
     }
 }
 
-// Adds a block, with a text before it, and tells whether it gives anything.
+// Adds a block, with a text before it, and returns whether it gives anything.
 pub(crate) fn push_block<'a>(
     setting: &Setting<'a>,
     rules: &NameRules<'a>,

@@ -71,7 +71,7 @@ pub fn author_variable<T: EntryLike>(entry: &T) -> NameVariable
     }
 }
 
-// Adds a block by the rules alone, with a text before it, and tells whether it gives anything.
+// Adds a block by the rules alone, with a text before it, and returns whether it gives anything.
 #[tactic(auto, using(crate::proofs::FormsLength::length_of_forms))]
 fn push_plain_block<'a, T: EntryLike>(
     input: &Input<'a, T>,
@@ -111,7 +111,7 @@ fn delimiter_behind<'a>(rules: &NameRules<'a>, is_behind: bool) -> Option<&'a st
     }
 }
 
-// Adds blocks, where another one may have given something, and tells whether any did.
+// Adds blocks, where another one may have given something, and returns whether any did.
 fn push_others<'a, T: EntryLike>(
     input: &Input<'a, T>,
     rules: &NameRules<'a>,
@@ -137,7 +137,7 @@ fn push_others<'a, T: EntryLike>(
     Ok(is_behind)
 }
 
-// The forms of the first block where what is told of names has its say.
+// The forms of the first block where the forms that are given for names have their say.
 fn first_own_forms(
     alloc: Global,
     cite: &CiteFacts,
@@ -189,7 +189,7 @@ impl Notes {
     }
 }
 
-// Adds the first block, and tells whether it gives anything.
+// Adds the first block, and returns whether it gives anything.
 #[tactic(auto, using(crate::proofs::FormsLength::length_of_forms, crate::proofs::FormsLength::length_of_first_forms))]
 fn push_first_block<'a, T: EntryLike>(
     input: &Input<'a, T>,
@@ -225,7 +225,7 @@ fn push_first_block<'a, T: EntryLike>(
     Ok(given)
 }
 
-// Adds the blocks of an element, and tells whether any gives anything.
+// Adds the blocks of an element, and returns whether any gives anything.
 fn push_blocks<'a, T: EntryLike>(
     input: &Input<'a, T>,
     rules: &NameRules<'a>,

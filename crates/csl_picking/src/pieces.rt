@@ -81,7 +81,7 @@ impl<'a> Shape<'a> {
     }
 }
 
-/// Adds a node of a leaf and a suffix behind it, where one of them is there, and tells whether it
+/// Adds a node of a leaf and a suffix behind it, where one of them is there, and returns whether it
 /// did.
 pub(crate) fn add_node<'a>(
     pieces: &mut Vec<Piece<'a>>,

@@ -1,4 +1,4 @@
-//! Macros that gave nothing, which are passed over while nothing more is noted.
+//! Macros that gave nothing, which are skipped while nothing more is noted.
 ghost use Rattle.std.specs.Prelude.{◌≡◌, ℕ, OnOk, IsTrue, IfSome};
 ghost use Rattle.csl_picking.specs.Pick.{Call};
 ghost use Rattle.csl_picking.specs.Quiet.{seen, told, GivesNothing, IsQuiet};
@@ -6,7 +6,7 @@ ghost use Rattle.csl_picking.specs.Quiet.{seen, told, GivesNothing, IsQuiet};
 use crate::notes::{Called, Notes, Suppressed};
 use csl_lookup::state::IdentifierUsage;
 use std::alloc::{AllocError, Global};
-use std::collections::HashMap;
+use std::collections::BTreeMap;
 
 /// What is noted, but for the forms of names: those stay as they were noted first.
 #[derive(Clone, Copy, PartialEq)]
@@ -45,7 +45,7 @@ impl Seen {
 pub(crate) struct QuietMacros<'a> {
     at: Seen,
     /// What each counted as.
-    macros: HashMap<(&'a str, usize), Called>,
+    macros: BTreeMap<(&'a str, usize), Called>,
 }
 
 impl<'a> QuietMacros<'a> {
@@ -55,7 +55,7 @@ impl<'a> QuietMacros<'a> {
     {
         QuietMacros {
             at: Seen::of(notes),
-            macros: HashMap::new(alloc),
+            macros: BTreeMap::new(alloc),
         }
     }
 

@@ -78,7 +78,7 @@ fn certain_properties<T: EntryLike, P>(
     }
 }
 
-/// The first properties of the cites of a request, of which each sees those before it.
+/// The first properties of the cites of a request. Each cite sees those before it.
 fn request_properties<'a, T: EntryLike, P: PartialEq>(
     alloc: Global,
     before: &[CitationRequest<'a, T, P>],

@@ -75,7 +75,7 @@ impl Day {
     }
 }
 
-/// A season, of which CSL has a term.
+/// A season for which CSL has a term.
 #[derive(Clone, Copy, PartialEq, Eq)]
 pub enum Season {
     Spring,
@@ -88,7 +88,7 @@ pub enum Season {
 #[derive(Clone, PartialEq, Eq, Drop)]
 pub enum YearPart {
     Season(Season),
-    /// A part that only its own name tells, as `Trinity term`.
+    /// A part that only its own name identifies, as `Trinity term`.
     Named(String),
     Month(Month),
     Day(Month, Day),
@@ -170,8 +170,8 @@ impl Season {
 }
 
 impl YearPart {
-    /// The part that these numbers of a month and a day tell, either of which is 0 where it is
-    /// absent. A month from 13 to 16 or from 21 to 24 is a season.
+    /// The part that these numbers of a month and of a day stand for. A number is 0 where the month
+    /// or the day is absent. A month from 13 to 16 or from 21 to 24 is a season.
     pub fn of_numbers(month: i64, day: i64) -> YearPartReading {
         if let Some(month) = Month::new(month) {
             return match Day::new(day) {
@@ -198,7 +198,7 @@ impl YearPart {
 }
 
 impl Date {
-    /// The date that the text tells: in EDTF (levels 0 and 1, but for unspecified months and days),
+    /// The date that the text gives: in EDTF (levels 0 and 1, but for unspecified months and days),
     /// as numbers, or in English words. Any other text is the date's literal.
     ///
     /// # Errors

@@ -25,8 +25,8 @@ const YEAR_DIGITS: usize = 3;
 /// The most digits of a number of a date, so that it fits an `i32`.
 const MOST_DIGITS: usize = 9;
 
-/// The date that the text tells: EDTF, numbers (`1999-5-3`, `5/3/1999`) or English words, or a
-/// range of these by `–`, `-` or `/`, also within one year (`Jan-Feb 2020`); none where it tells
+/// The date that the text gives: EDTF, numbers (`1999-5-3`, `5/3/1999`) or English words, or a
+/// range of these by `–`, `-` or `/`, also within one year (`Jan-Feb 2020`); none where it gives
 /// none.
 pub(crate) fn date_of_text(text: &str) -> Option<DateReading> {
     let text = text.trim();

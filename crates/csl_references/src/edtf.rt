@@ -1,7 +1,7 @@
 //! Dates in the Extended Date/Time Format (EDTF, ISO 8601-2:2019): level 0, and of level 1 the
-//! seasons, the long years, the open intervals, the qualifications of a whole date and the years of
-//! which the last digits are not told. Of the draft of 2012, as pandoc reads it, `open` and
-//! `unknown` as ends of an interval, and a `u` for a digit that is not told.
+//! seasons, the long years, the open intervals, the qualifications of a whole date and the years
+//! whose last digits are not specified. Of the draft of 2012, as pandoc reads it, `open` and
+//! `unknown` as ends of an interval, and a `u` for a digit that is not specified.
 use crate::date::{DateReading, PartialDate, YearPart};
 use crate::point::{Point, between, on, since, until};
 
@@ -36,7 +36,8 @@ fn end_of(text: &str) -> Option<End> {
     }
 }
 
-/// How years end whose last digits are not told, how many digits are, and how many years these are.
+/// How years end whose last digits are not specified, how many digits are, and how many years these
+/// are.
 const UNSPECIFIED: [(&str, usize, i32); 6] = [
     ("XXX", 1, 1000),
     ("XX", 2, 100),
@@ -46,7 +47,7 @@ const UNSPECIFIED: [(&str, usize, i32); 6] = [
     ("u", 3, 10),
 ];
 
-/// The years of which the last digits are not told.
+/// The years whose last digits are not specified.
 fn unspecified_years(text: &str) -> Option<DateReading> {
     for (ending, digits, years) in UNSPECIFIED {
         if let Some(known) = text.strip_suffix(ending) {
@@ -111,7 +112,7 @@ fn year_alone(year: i32) -> Point {
     }
 }
 
-/// A year of more than four digits, which stands behind a `Y`.
+/// A year of more than four digits, which follows a `Y`.
 fn long_year(text: &str) -> Option<i32> {
     let digits = text.strip_prefix('-').unwrap_or(text);
     if digits.len() < 5 || !digits.bytes().all(|b| b.is_ascii_digit()) {

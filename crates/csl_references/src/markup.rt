@@ -92,7 +92,7 @@ fn tokens_of(alloc: Global, markup: &str) -> Result<Vec<Token<'_>>, AllocError> 
     Ok(tokens)
 }
 
-/// The tag whose `<` stands right before the piece, and what stands behind it.
+/// The tag whose `<` stands right before the piece, and what follows the tag.
 fn tag_at(piece: &str) -> Option<(Token<'_>, &str)> {
     let (inside, behind) = piece.split_once('>')?;
     Some((tag_of(inside)?, behind))

@@ -10,7 +10,7 @@ pub enum Name {
     Literal(String),
 }
 
-/// The parts of a person's name, none of which is empty. There is a family name or a given name.
+/// The parts of a person's name. None is empty. There is a family name or a given name.
 #[derive(Clone, PartialEq, Eq, Drop)]
 pub struct PersonName {
     pub family: Option<String>,

@@ -7,7 +7,9 @@ use crate::name::Name;
 use crate::rich_text::RichText;
 use csl_vocabulary::item_type::ItemType;
 use csl_vocabulary::variable::{DateVariable, NameVariable, NumberVariable, TextVariable};
-use indexmap::IndexMap;
+use std::alloc::{AllocError, Global};
+use std::collections::BTreeMap;
+use std::mem::replace;
 
 /// What a bibliography says of one item. A variable stands in its list once at most, and none has
 /// an empty value.
@@ -22,7 +24,12 @@ pub struct Reference {
 }
 
 /// References by their ids, in the order in which they were given.
-pub type References = IndexMap<String, Reference>;
+#[derive(Drop)]
+pub struct References {
+    all: Vec<Reference>,
+    /// The index of each, by its id.
+    indexes: BTreeMap<String, usize>,
+}
 
 /// The value beside the variable.
 fn value_of<V: PartialEq, T>(pairs: &[(V, T)], variable: V) -> Option<&T>
@@ -67,5 +74,62 @@ impl Reference {
             (value_at ⟦<NameVariable as PartialEq>⟧.eq self.now.names.items variable) }
     {
         value_of(&self.names, variable).map(|names| names.as_slice())
+    }
+}
+
+impl References {
+    /// No references.
+    pub fn new(alloc: Global) -> References {
+        References {
+            all: Vec::new(alloc),
+            indexes: BTreeMap::new(alloc),
+        }
+    }
+
+    /// Adds a reference behind the others. Where one has the same id, the new one stands at the
+    /// index of that one, which is returned.
+    ///
+    /// # Errors
+    ///
+    /// Where memory is refused: the references stay as they were.
+    pub fn insert(&mut self, reference: Reference) -> Result<Option<Reference>, AllocError> {
+        if let Some(index) = self.indexes.get(reference.id.as_str()) {
+            if let Some(known) = self.all.get_mut(*index) {
+                return Ok(Some(replace(known, reference)));
+            }
+        }
+        let index = self.all.len();
+        let entry = self.indexes.entry(reference.id.clone()?)?;
+        self.all.push(reference)?;
+        entry.insert_entry(index);
+        Ok(None)
+    }
+
+    /// The reference with this id, if there is one.
+    pub fn get(&self, id: &str) -> Option<&Reference> {
+        match self.indexes.get(id) {
+            Some(index) => self.all.get(*index),
+            None => None,
+        }
+    }
+
+    /// Whether a reference has this id.
+    pub fn contains(&self, id: &str) -> bool {
+        self.indexes.contains_key(id)
+    }
+
+    /// How many there are.
+    pub fn len(&self) -> usize {
+        self.all.len()
+    }
+
+    /// The references, in their order.
+    pub fn as_slice(&self) -> &[Reference] {
+        self.all.as_slice()
+    }
+
+    /// The references themselves, in their order.
+    pub fn into_vec(self) -> Vec<Reference> {
+        self.all
     }
 }

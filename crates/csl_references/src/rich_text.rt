@@ -44,7 +44,7 @@ pub struct Run {
     pub style: RunStyle,
 }
 
-/// A text in runs, none of which is empty; neighbours differ in style.
+/// A text in runs. No run is empty; neighbours differ in style.
 #[derive(Clone, PartialEq, Eq, Drop)]
 pub struct RichText {
     pub runs: Vec<Run>,

@@ -1,4 +1,4 @@
-//! The mentions of entries, as they are written and told apart.
+//! The mentions of entries, as they are written and disambiguated.
 ghost use Rattle.std.specs.Prelude.{◌≡◌, ◌+◌, ◌*◌, ℕ, IfOk, length, map};
 ghost use Rattle.csl_lookup.specs.PropertiesView.{properties_view};
 ghost use Rattle.csl_style_values.specs.StyleView.{citation_view};

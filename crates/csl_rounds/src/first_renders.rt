@@ -36,7 +36,7 @@ use std::alloc::Global;
 /// `firsts` has a list for each request, as long as the request's items. Each rendering is counted.
 ///
 /// # Errors
-/// The writer's; a want of memory among others.
+/// The writer's; lack of memory among others.
 pub fn first_renders<'r, 'a, T: EntryLike, P: Drop, W: CiteWriter<T, P>>(
     alloc: Global,
     requests: AcyclicRequests<'r, 'a, T, P>,

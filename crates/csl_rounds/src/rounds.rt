@@ -55,12 +55,12 @@ pub struct Rounds {
 /// again with it, for its purpose and with no verdict. A round without marks is the last. Each
 /// rendering is counted: one in each round that marks for each cite whose entry it marks.
 ///
-/// `cites` are those of the requests of which `table` is made. In mode full none of them may be
+/// `cites` are those of the requests that `table` is made of. In mode full none of them may be
 /// disambiguated already.
 ///
 /// # Errors
 ///
-/// The writer's; a want of memory among others. Then the cites are of no further use.
+/// The writer's; lack of memory among others. Then the cites are of no further use.
 pub fn disambiguate<'a, T: EntryLike, P, W: CiteWriter<T, P>>(
     alloc: Global,
     cites: &mut [SpeculativeCiteRender<'_, 'a, T, P>],

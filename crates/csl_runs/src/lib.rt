@@ -1,5 +1,5 @@
-//! Collapsing without names, where works are told apart as CSL 1.0.2 has it (CSL 1.0.2, cite
-//! collapsing): ranges of citation numbers, and years of which only the suffixes are shown.
+//! Collapsing without names, where works are disambiguated as CSL 1.0.2 has it (CSL 1.0.2, cite
+//! collapsing): ranges of citation numbers, and years that show their suffixes only.
 #![tactic(auto)]
 
 mod around;

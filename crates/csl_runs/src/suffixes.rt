@@ -1,4 +1,4 @@
-//! Years of which only the suffixes are shown (CSL 1.0.2, cite collapsing: year-suffix and
+//! Years that show their suffixes only (CSL 1.0.2, cite collapsing: year-suffix and
 //! year-suffix-ranged).
 ghost use Rattle.std.specs.Prelude.{◌≡◌, ◌<◌, IfOk, length, nat_eq};
 ghost use Rattle.std.specs.Option.{option_eq};

@@ -12,7 +12,7 @@ use csl_values::taxonomy::NameVariable;
 use std::alloc::{AllocError, Global};
 
 /// Names as they are shown.
-#[derive(PartialEq, Eq, Hash, Drop)]
+#[derive(PartialEq, Eq, PartialOrd, Ord, Hash, Drop)]
 pub struct ShownNames {
     /// How they read.
     pub text: Text,

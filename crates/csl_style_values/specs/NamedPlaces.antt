@@ -1,9 +1,9 @@
 -- Places that a map keeps by name.
-use Rattle.std.specs.Prelude.{ℕ, Option, bytes_eq}
-use Rattle.std.specs.Borrow.{Bor}
-use Rattle.std.specs.HashMap.{HashMap, get_by}
+use Rattle.std.specs.Prelude.{ℕ, Option}
+use Rattle.std.specs.BTreeMap.{BTreeMap, get_by_text}
+use Rattle.std.specs.declared.string.String.{String}
 use Rattle.csl_style_values.specs.Element.{Name}
 
 -- the place that the map keeps for a name
-abbrev pub place_named : {S : Type 0} → HashMap (Bor Name) ℕ S → Name → Option ℕ
-place_named places name = get_by (λ k. bytes_eq name k.now) places
+abbrev pub place_named : {Y : Type 0} → BTreeMap (String Y) ℕ → Name → Option ℕ
+place_named places name = get_by_text places name

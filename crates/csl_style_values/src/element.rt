@@ -27,7 +27,7 @@ pub enum NameForm {
     Short,
 }
 
-/// The options of names, each of which is handed down where it is absent (CSL 1.0.2, inheritable
+/// The options of names. Each is inherited where it is absent (CSL 1.0.2, inheritable
 /// name options).
 #[derive(PartialEq, Eq, Drop)]
 pub struct InheritableNameOptions {

@@ -1,5 +1,5 @@
-//! Laws of equality: `==` of styles, of locales and of what they are made of tells equal plain
-//! data.
+//! Laws of equality: `==` of styles, of locales and of what they are made of decides whether they
+//! are equal as plain data.
 ghost use Rattle.std.specs.Prelude.{◌≡◌};
 ghost use Rattle.std.specs.Bool.{Decides};
 ghost use Rattle.csl_style_values.specs.ElementView.{

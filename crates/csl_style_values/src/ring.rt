@@ -34,7 +34,7 @@ use crate::graph::is_on_round;
 use crate::order::has_order;
 use crate::style::IndependentStyle;
 use std::alloc::{AllocError, Global};
-use std::collections::HashMap;
+use std::collections::BTreeMap;
 
 /// The children of the first macro of a name; none without such a macro.
 pub fn body_of<'a>(macros: &'a [CslMacro], name: &str) -> Option<&'a [LayoutRenderingElement]>
@@ -54,28 +54,35 @@ pub fn body_of<'a>(macros: &'a [CslMacro], name: &str) -> Option<&'a [LayoutRend
 /// # Errors
 ///
 /// Where memory is refused.
-pub fn first_indices<'a>(
+pub fn first_indices(
     alloc: Global,
-    macros: &'a [CslMacro],
-) -> Result<HashMap<&'a str, usize>, AllocError>
+    macros: &[CslMacro],
+) -> Result<BTreeMap<String, usize>, AllocError>
     ensures { IfOk result (λ places. (name : Name)
         → place_named places name ≡ place_of_macro name (macros_view macros.now)) }
 {
-    let mut places = HashMap::new(alloc);
+    let mut places = BTreeMap::new(alloc);
     for i in 0..macros.len() {
         let name = macros[i].name.as_str();
         // a name keeps its first place
-        let first = places.get(&name).copied().unwrap_or(i);
-        places.insert(name, first)?;
+        let first = places.get(name).copied().unwrap_or(i);
+        places.insert(String::from_str(alloc, name)?, first)?;
     }
     Ok(places)
 }
 
+// The place that is kept for a name.
+fn place_named(places: &BTreeMap<String, usize>, name: &str) -> Option<usize>
+    ensures { result ≡ place_named places.now name.now }
+{
+    places.get(name).copied()
+}
+
 // The places of the macros that these elements call, without the names that have no macro.
-fn called_places<'a>(
+fn called_places(
     alloc: Global,
-    places: &HashMap<&'a str, usize>,
-    elements: &'a [LayoutRenderingElement],
+    places: &BTreeMap<String, usize>,
+    elements: &[LayoutRenderingElement],
 ) -> Result<Vec<usize>, AllocError>
     ensures { IfOk result (λ called. called.items
         ≡ filter_map (place_named places.now) (calls_of_all (elements_view elements.now))) }
@@ -84,8 +91,8 @@ fn called_places<'a>(
     add_all_calls(&mut names, elements)?;
     let mut called = Vec::new(alloc);
     for name in &names {
-        if let Some(place) = places.get(name) {
-            called.push(*place)?;
+        if let Some(place) = place_named(places, *name) {
+            called.push(place)?;
         }
     }
     Ok(called)
@@ -119,7 +126,7 @@ fn is_new_name(macros: &[CslMacro], i: usize, name: &str) -> bool
 }
 
 // The place of the first macro that lies on a ring. Each macro is asked for alone, so this is for
-// macros of which some do.
+// macros where some lie on one.
 fn first_ring(
     alloc: Global,
     macros: &[CslMacro],

@@ -75,7 +75,7 @@ pub struct Citation {
     pub name_options: InheritableNameOptions,
 }
 
-/// Which names are made fuller to tell cites apart (CSL 1.0.2, disambiguation).
+/// Which names are made fuller to disambiguate cites (CSL 1.0.2, disambiguation).
 #[derive(Clone, Copy, PartialEq, Eq)]
 pub enum DisambiguationRule {
     AllNames,

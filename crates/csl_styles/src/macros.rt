@@ -9,13 +9,13 @@ use csl_base::element::LayoutRenderingElement;
 use csl_base::ring::first_indices;
 use csl_base::style::IndependentStyle;
 use std::alloc::{AllocError, Global};
-use std::collections::HashMap;
+use std::collections::BTreeMap;
 
 /// A style, with the place of its first macro of each name.
 #[derive(Drop)]
 pub(crate) struct MacroTable<'a> {
     pub(crate) style: &'a IndependentStyle,
-    places: HashMap<&'a str, usize>,
+    places: BTreeMap<String, usize>,
     ghost table: { (name : Name)
         → place_named places name ≡ place_of_macro name (style_view style.now).macros },
 }
@@ -43,7 +43,7 @@ impl<'a> MacroTable<'a> {
         ensures { option_map (λ v. elements_view v.now) result
             ≡ body_of name.now (macros_of self.now) }
     {
-        let place = self.places.get(&name)?;
+        let place = self.places.get(name)?;
         Some(&self.style.macros[*place].children)
     }
 }

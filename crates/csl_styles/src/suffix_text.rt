@@ -22,7 +22,7 @@ use csl_base::calls::add_all_calls;
 use csl_base::element::{ChooseBranch, LayoutRenderingElement, TextTarget};
 use csl_base::style::IndependentStyle;
 use csl_base::taxonomy::StandardVariable;
-use indexmap::IndexSet;
+use ordered_set::set::OrderedSet;
 use std::alloc::{AllocError, Global};
 
 // Whether the suffix is written by an element itself, and not by a macro that it calls.
@@ -73,13 +73,13 @@ fn branches_have_suffix(branches: &[ChooseBranch], otherwise: &[LayoutRenderingE
 fn add_new<'a>(
     macros: &MacroTable<'a>,
     name: &'a str,
-    names: &mut IndexSet<&'a str>,
+    names: &mut OrderedSet<&'a str>,
 ) -> Result<(), AllocError>
     ensures { OnOk result (map (λ s. s.now) names.new.keys
         ≡ gather_new (macros_of macros.now) name.now (map (λ s. s.now) names.old.keys)) }
 {
     if macros.body_of(name).is_some() {
-        names.insert(name)?;
+        names.insert(name, name)?;
     }
     Ok(())
 }
@@ -89,7 +89,7 @@ fn add_called<'a>(
     alloc: Global,
     macros: &MacroTable<'a>,
     elements: &'a [LayoutRenderingElement],
-    names: &mut IndexSet<&'a str>,
+    names: &mut OrderedSet<&'a str>,
 ) -> Result<(), AllocError>
     ensures { OnOk result (map (λ s. s.now) names.new.keys
         ≡ gather_each (macros_of macros.now) (calls_of_all (elements_view elements.now))
@@ -109,7 +109,7 @@ fn look_at<'a>(
     alloc: Global,
     macros: &MacroTable<'a>,
     name: &str,
-    names: &mut IndexSet<&'a str>,
+    names: &mut OrderedSet<&'a str>,
 ) -> Result<bool, AllocError>
     ensures found { IfOk result
         (λ b. b ≡ suffix_in_body no_call (body_of name.now (macros_of macros.now))) }
@@ -144,11 +144,11 @@ fn suffix_stands<'a>(
     if have_suffix(elements) {
         return Ok(true);
     }
-    let mut names = IndexSet::new(alloc);
+    let mut names = OrderedSet::new(alloc);
     add_called(alloc, macros, elements, &mut names)?;
     let mut at = 0;
     while at < names.len() {
-        let next = *names.get_index(at).unwrap();
+        let next = names.as_slice()[at];
         let found = look_at(alloc, macros, next, &mut names)?;
         if found {
             return Ok(true);

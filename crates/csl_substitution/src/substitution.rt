@@ -30,7 +30,7 @@ use std::alloc::{AllocError, Global};
 /// in its order, each with its key. Nothing changes without a substitute.
 ///
 /// An item's names are the `Name` elements in its first names element; an item without a names
-/// element is passed over. It is compared with the latest item before it that has a names element
+/// element is skipped. It is compared with the latest item before it that has a names element
 /// and in which nothing was substituted. The first item never changes, and in the others at most
 /// the children of the first names element do.
 ///

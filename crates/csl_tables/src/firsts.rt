@@ -1,4 +1,4 @@
-//! Mentions where nothing tells them apart yet.
+//! Mentions where nothing disambiguates them yet.
 ghost use Rattle.std.specs.Prelude.{◌≡◌, ◌∷◌, [], ◌++◌, IfOk, None, OnOk};
 ghost use Rattle.csl_tables.specs.Asked.{asked_for};
 ghost use Rattle.csl_tables.specs.Steps.{AreFirsts};

@@ -1,4 +1,4 @@
-//! What tells the mentions of all entries apart as CSL 1.0.2 has it, and what a writer is asked
+//! What disambiguates the mentions of all entries as CSL 1.0.2 has it, and what a writer is asked
 //! for on the way: names, the condition `disambiguate` and year suffixes, each once (CSL 1.0.2,
 //! disambiguation).
 #![tactic(auto)]

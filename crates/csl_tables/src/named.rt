@@ -12,7 +12,7 @@ use csl_telling::told::tell_apart_by_names;
 use csl_values::names::NameDisambiguationProperties;
 use std::alloc::{AllocError, Global};
 
-/// What tells mentions apart by their names, once they are put into their groups.
+/// What disambiguates mentions by their names, once they are put into their groups.
 pub(crate) fn told_by_names(
     alloc: Global,
     mentions: &[Mention],

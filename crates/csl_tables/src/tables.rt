@@ -28,7 +28,7 @@ use csl_mentions::state::MentionState;
 use csl_mentions::suffixes::suffixes_of;
 use std::alloc::{AllocError, Global};
 
-/// What tells mentions apart.
+/// What disambiguates mentions.
 #[derive(Drop)]
 pub struct Told<K> {
     /// The state of each mention.
@@ -38,24 +38,24 @@ pub struct Told<K> {
     /// What each mention reads as in the end, if it has a text: the index of the first mention
     /// with its text.
     pub texts: Vec<Option<usize>>,
-    /// What the writer kept of each mention where nothing told it apart.
+    /// What the writer kept of each mention where nothing disambiguated it.
     pub firsts: Vec<K>,
-    /// What it kept of those that something tells apart, as it wrote them last.
+    /// What it kept of those that something disambiguates, as it wrote them last.
     pub again: Vec<Option<K>>,
 }
 
-/// What tells the mentions of all entries apart. They stand in the order of the bibliography, the
+/// What disambiguates the mentions of all entries. They stand in the order of the bibliography, the
 /// first one of an entry before the later one.
 ///
-/// Each is written where nothing tells it apart; those of several entries that read alike are
-/// told apart by their names. Those that get other names are written again with these; the
+/// Each is written where nothing disambiguates it; those of several entries that read alike are
+/// disambiguated by their names. Those that get other names are written again with these; the
 /// condition `disambiguate` holds for those that tested it and still read as one of another
 /// entry. They are written once more, and entries whose later mentions read alike then get year
 /// suffixes. Nothing else is written.
 ///
 /// # Errors
 ///
-/// The writer's; a want of memory among others.
+/// The writer's; lack of memory among others.
 pub fn tell_apart<W, C, M: WrittenBy<W, C>>(
     alloc: Global,
     subjects: &[Subject<M>],
@@ -100,7 +100,7 @@ pub fn tell_apart<W, C, M: WrittenBy<W, C>>(
     Ok(with_suffixes(alloc, named)?)
 }
 
-/// Mentions once names tell them apart.
+/// Mentions once names disambiguate them.
 #[derive(Drop)]
 struct Named<K> {
     /// As they read then.

@@ -6,7 +6,7 @@ use std::alloc::{AllocError, Global};
 /// A mention that was written.
 #[derive(Drop)]
 pub struct WrittenMention<K> {
-    /// What is read of it, by which mentions are told apart.
+    /// What is read of it: mentions are disambiguated by this.
     pub read: Written,
     /// What its writer keeps of it.
     pub kept: K,
@@ -19,7 +19,7 @@ pub trait WrittenBy<W, C> {
     ghost use Rattle.std.specs.Prelude.{◌≡◌, ◌∷◌, [], IfOk, OnOk};
     ghost use Rattle.csl_tables.specs.Asked.{MentionsWriter, asked_for, first_kept, untold};
 
-    /// Why nothing may be written; a want of memory among others.
+    /// Why nothing may be written; lack of memory among others.
     type Error: From<AllocError> + Drop;
 
     /// What is kept of a mention that was written.
@@ -49,7 +49,7 @@ pub trait WrittenBy<W, C> {
     ghost agreed_before: { (u : W) (v : W) (way : Way) → goes_on u v → agrees v way
         → agrees u way };
 
-    /// Writes the mention where nothing tells it apart.
+    /// Writes the mention where nothing disambiguates it.
     ///
     /// # Errors
     ///
@@ -67,7 +67,7 @@ pub trait WrittenBy<W, C> {
             ≡ asked_for ((self.now, untold) ∷ []) (writing writer.old counter.old way)) }
         ensures goes_on { OnOk result (goes_on writer.old writer.new) };
 
-    /// Writes the mention again, where this tells it apart. `first` is what was kept of it where
+    /// Writes the mention again, where this disambiguates it. `first` is what was kept of it where
     /// nothing did.
     ///
     /// # Errors

@@ -2,12 +2,13 @@
 use mathlib.Core.Bool.{or-false}
 use Rattle.std.proofs.Common.{◌≡◌, Bool, true, false, cond, not, ◌&&◌, ◌||◌, Some, None, Option, [], ◌∷◌, ◌++◌, refl, ap, sym, subst, ◌∙◌, true≢false}
 use Rattle.std.specs.Prelude.{is_some}
-use Rattle.std.specs.HashMap.{HashMap, get}
+use Rattle.std.specs.BTreeMap.{BTreeMap, is_at}
 use Rattle.std.specs.Map.{lookup}
 use Rattle.std.proofs.lemmas.List.{append-nil, append_assoc}
 use Rattle.std.proofs.lemmas.List.Folds.{list_any-append}
 use Rattle.csl_telling.specs.Looks.{same_look}
-use Rattle.csl_telling.specs.Rivals.{AreRivals, Shown, TellsMore, held_with, is_other, is_other_held, is_other_shown, is_shown, same_name}
+use Rattle.csl_telling.specs.Rivals.{AreRivals, Shown, TellsMore, held_for, held_with, is_other, is_other_held, is_other_shown, is_shown, same_name}
+use Rattle.csl_telling.specs.contracts.rivals.SharedNameOrd.TheImpl as name_ord
 use Rattle.csl_telling.specs.declared.look.Look.{Look}
 use Rattle.csl_telling.specs.declared.rivals.Held.{Held}
 use Rattle.csl_telling.specs.declared.rivals.SharedName.{SharedName}
@@ -47,8 +48,8 @@ names-differ a b e = by (same_name b a) refl
         let same : b ≡ a = names_find.equal b a p in
         absurd (true≢false (sym (names_find.self a) ∙ ap (same_name a) (sym same) ∙ e))
 
-module _ {S : Type 0} (old new : HashMap SharedName Held S) (name : SharedName) (a : Look)
-    (at : (q : SharedName) → get same_name new q ≡ cond (same_name name q) (Some (held_with a (get same_name old name))) (get same_name old q)) where
+module _ (old new : BTreeMap SharedName Held) (name : SharedName) (a : Look)
+    (at : (q : SharedName) → held_for new q ≡ cond (same_name name q) (Some (held_with a (held_for old name))) (held_for old q)) where
   pub one-more : TellsMore old new ((name, a) ∷ [])
   one-more es h = record {
     others = λ q r. ap (is_other_held r) (at q) ∙ others q r (same_name name q) refl ∙ sym (list_any-append _ es ((name, a) ∷ []));
@@ -56,12 +57,12 @@ module _ {S : Type 0} (old new : HashMap SharedName Held S) (name : SharedName) 
   }
     where
       others : (q : SharedName) (r : Look) (b : Bool) → same_name name q ≡ b
-          → is_other_held r (cond b (Some (held_with a (get same_name old name))) (get same_name old q))
+          → is_other_held r (cond b (Some (held_with a (held_for old name))) (held_for old q))
           ≡ (is_other_shown q r es || ((same_name q name && not (same_look r a)) || false))
       others q r true e =
           let same : name ≡ q = names_find.equal name q e in
           let own : same_name q name ≡ true = ap (λ n. same_name n name) (sym same) ∙ names_find.self name in
-          grows (get same_name old name) r a ∙ (λ i. is_other_held r (get same_name old (same i)) || not (same_look r a))
+          grows (held_for old name) r a ∙ (λ i. is_other_held r (held_for old (same i)) || not (same_look r a))
           ∙ ap (λ c. c || not (same_look r a)) (h.others q r)
           ∙ ap (λ c. is_other_shown q r es || c) (sym (or-false _ ∙ ap (λ c. c && not (same_look r a)) own))
       others q r false e =
@@ -69,7 +70,7 @@ module _ {S : Type 0} (old new : HashMap SharedName Held S) (name : SharedName) 
           ∙ sym (ap (λ c. is_other_shown q r es || ((c && not (same_look r a)) || false)) (names-differ name q e) ∙ or-false _)
 
       held : (q : SharedName) (b : Bool) → same_name name q ≡ b
-          → is_some (cond b (Some (held_with a (get same_name old name))) (get same_name old q)) ≡ (is_shown q es || (same_name q name || false))
+          → is_some (cond b (Some (held_with a (held_for old name))) (held_for old q)) ≡ (is_shown q es || (same_name q name || false))
       held q true e =
           let same : name ≡ q = names_find.equal name q e in
           let own : same_name q name ≡ true = ap (λ n. same_name n name) (sym same) ∙ names_find.self name in
@@ -81,16 +82,15 @@ module _ {S : Type 0} (old new : HashMap SharedName Held S) (name : SharedName) 
       held q false e =
           h.held q ∙ sym (ap (λ c. is_shown q es || (c || false)) (names-differ name q e) ∙ or-false _)
 
-module _ {S : Type 0} where
-  -- nothing was shown yet
-  pub none-yet : (m : HashMap SharedName Held S) → m.entries ≡ [] → AreRivals m []
-  none-yet m e = record {
-    others = λ name r. ap (λ es. is_other_held r (lookup (same_name name) es)) e;
-    held = λ name. ap (λ es. is_some (lookup (same_name name) es)) e;
-  }
+-- nothing was shown yet
+pub none-yet : (m : BTreeMap SharedName Held) → m.entries ≡ [] → AreRivals m []
+none-yet m e = record {
+  others = λ name r. ap (λ es. is_other_held r (lookup (is_at ((name_ord.ghosts).cmp name)) es)) e;
+  held = λ name. ap (λ es. is_some (lookup (is_at ((name_ord.ghosts).cmp name)) es)) e;
+}
 
-  pub tells-nothing : (m : HashMap SharedName Held S) → TellsMore m m []
-  tells-nothing m es h = subst (AreRivals m) (sym (append-nil es)) h
+pub tells-nothing : (m : BTreeMap SharedName Held) → TellsMore m m []
+tells-nothing m es h = subst (AreRivals m) (sym (append-nil es)) h
 
-  pub then-more : (a b c : HashMap SharedName Held S) (es fs : Shown) → TellsMore a b es → TellsMore b c fs → TellsMore a c (es ++ fs)
-  then-more a b c es fs p q gs h = subst (AreRivals c) (append_assoc gs es fs) (q (gs ++ es) (p gs h))
+pub then-more : (a b c : BTreeMap SharedName Held) (es fs : Shown) → TellsMore a b es → TellsMore b c fs → TellsMore a c (es ++ fs)
+then-more a b c es fs p q gs h = subst (AreRivals c) (append_assoc gs es fs) (q (gs ++ es) (p gs h))

@@ -2,7 +2,7 @@
 use mathlib.Core.Bool.{or-false}
 use Rattle.std.proofs.Common.{◌≡◌, ℕ, Bool, true, false, cond, not, ◌&&◌, ◌||◌, List, Option, [], ◌∷◌, take, refl, sym, ◌∙◌}
 use Rattle.std.specs.Prelude.{bytes_eq, filter}
-use Rattle.std.specs.HashMap.{HashMap}
+use Rattle.std.specs.BTreeMap.{BTreeMap}
 use Rattle.std.specs.List.{flat_map, list_any}
 use Rattle.csl_values.specs.declared.names.DisambiguatedNameForm.{DisambiguatedNameForm}
 use Rattle.csl_style_values.specs.declared.style.DisambiguationRule.{DisambiguationRule}
@@ -61,7 +61,7 @@ module _ (r : Look) where
       by false = refl
 
   -- of what is shown by some of the names of mentions
-  module _ {S : Type 0} (rivals : HashMap SharedName Held S) (names : NamedMention → List MentionedName) (ms : List NamedMention)
+  module _ (rivals : BTreeMap SharedName Held) (names : NamedMention → List MentionedName) (ms : List NamedMention)
       (h : AreRivals rivals (flat_map (λ m. flat_map person_keys (names m)) ms)) where
     persons : List Look
     persons = flat_map (λ m. full_looks (names m)) ms

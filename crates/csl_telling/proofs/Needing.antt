@@ -2,7 +2,6 @@
 use mathlib.Core.Bool.{or-false}
 use Rattle.std.proofs.Common.{◌≡◌, ℕ, ◌+◌, ◌<◌, ◌≤◌, zero, suc, Bool, true, false, cond, not, ◌&&◌, ◌||◌, Some, None, Option, List, [], ◌∷◌, ◌++◌, length, map, take, refl, ap, sym, ◌∙◌, arith, add-one, inl, inr, ◌⊎◌}
 use Rattle.std.specs.Prelude.{All, bytes_eq, filter, is_none, is_some, nat_eq, nat_lt, slice_get}
-use Rattle.std.specs.HashMap.{get}
 use Rattle.std.specs.List.{enumerate_from, flat_map, list_any, range_with_len}
 use Rattle.std.specs.Option.{option_eq, option_map_or}
 use Rattle.std.specs.Cmp.{nat_eq_equiv}
@@ -15,7 +14,7 @@ use Rattle.csl_telling.specs.Forms.{greatest_form}
 use Rattle.csl_telling.specs.Gathered.{IsGathered, count_at, count_from, count_of, ends_at, ends_of, ends_with, forms_at, forms_from, is_end, needs, needs_on, same_node, shown_at, shown_by, shown_from}
 use Rattle.csl_telling.specs.Known.{rival_form}
 use Rattle.csl_telling.specs.Looks.{has_given, is_namesake, needed, needed_beside, same_initials, same_look}
-use Rattle.csl_telling.specs.Rivals.{at_node, by_family, by_initials, form_by, is_other_held, is_other_shown, is_shown, same_name}
+use Rattle.csl_telling.specs.Rivals.{at_node, by_family, by_initials, form_by, held_for, is_other_held, is_other_shown, is_shown}
 use Rattle.csl_telling.specs.Telling.{both_go_on, first_difference, form_against, form_beside, form_needed, greatest, group_of, in_one_group, names_against, names_needed}
 use Rattle.csl_telling.specs.Ways.{AllMade, AllMadeBy, AreMade, lead, stop_at, stops_of, way_of}
 use Rattle.csl_telling.specs.declared.gathered.Gathered.{Gathered}
@@ -258,7 +257,7 @@ module _ (steps : List Step) (reaches : List Reach) (made : All (AllMade steps) 
         differ : (b : Reach) → apart_at i b ≡ (same_looks (take i r) (take i b.looks) && not (option_eq same_look (Some x) (slice_get b.looks i)))
         differ b = differs-at r b.looks i ∙ ap (λ o. same_looks (take i r) (take i b.looks) && not (option_eq same_look o (slice_get b.looks i))) here
 
-        other-goes : is_other_held x (get same_name g.beside (at_node (node i))) ≡ list_any (λ b. apart_at i b && is_some (slice_get b.looks i)) others
+        other-goes : is_other_held x (held_for g.beside (at_node (node i))) ≡ list_any (λ b. apart_at i b && is_some (slice_get b.looks i)) others
         other-goes =
             known.beside.others (at_node (node i)) x
             ∙ shown-any _ (λ c o. option_map_or (λ y. not (same_look x y)) o false) i within (λ c m o. at-other (node i) m x c o)
@@ -396,13 +395,13 @@ module _ (steps : List Step) (reaches : List Reach) (made : All (AllMade steps) 
           ∙ sym (greatest-form-asked (has_given x) (shows (is_namesake x)) (shows (λ y. is_namesake x y && same_initials x y)) (λ b. implied (apart_at i b) (slice_get b.looks i)) others)
           ∙ sym (ap greatest_form (same-forms others))
         where
-          family : is_other_held x (get same_name g.beside (by_family (node i) x)) ≡ list_any (shows (is_namesake x)) others
+          family : is_other_held x (held_for g.beside (by_family (node i) x)) ≡ list_any (shows (is_namesake x)) others
           family =
               known.beside.others (by_family (node i) x) x
               ∙ shown-any _ (λ d o. d && option_map_or (is_namesake x) o false) i within (λ d m o. at-family (node i) m x d o)
               ∙ in-form (is_namesake x) namesake cited
 
-          initials : is_other_held x (get same_name g.beside (by_initials (node i) x)) ≡ list_any (shows (λ y. is_namesake x y && same_initials x y)) others
+          initials : is_other_held x (held_for g.beside (by_initials (node i) x)) ≡ list_any (shows (λ y. is_namesake x y && same_initials x y)) others
           initials =
               known.beside.others (by_initials (node i) x) x
               ∙ shown-any _ (λ d o. d && option_map_or (λ y. is_namesake x y && same_initials x y) o false) i within (λ d m o. at-initials (node i) m x d o)

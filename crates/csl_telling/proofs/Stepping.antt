@@ -1,6 +1,6 @@
 -- What walks over lists have made so far, one member more.
 use Rattle.std.proofs.Common.{◌≡◌, ℕ, ◌+◌, ◌<◌, ◌≤◌, ◌||◌, List, [], ◌∷◌, ◌++◌, length, map, take, get_or, ap, sym, subst, ◌∙◌, zero-add}
-use Rattle.std.specs.HashMap.{HashMap}
+use Rattle.std.specs.BTreeMap.{BTreeMap}
 use Rattle.std.specs.List.{enumerate_from, flat_map}
 use Rattle.std.proofs.lemmas.Grind.{flat_map-append}
 use Rattle.std.proofs.lemmas.List.{append-nil, map-append, take_all, take_more}
@@ -34,11 +34,11 @@ module _ {X : Type 0} (xs : List X) (k : ℕ) (x : X) (within : k < length xs) (
   pub made-next : {Y : Type 0} (f : ℕ × X → Y) → map f (take (k + 1) (enumerate_from 0 xs)) ≡ map f (take k (enumerate_from 0 xs)) ++ f (k, x) ∷ []
   made-next f = ap (map f) enumerate-next ∙ map-append f (take k (enumerate_from 0 xs)) ((k, x) ∷ [])
 
-  module _ {S : Type 0} (f : X → Shown) (a b c : HashMap SharedName Held S) where
+  module _ (f : X → Shown) (a b c : BTreeMap SharedName Held) where
     pub tells-next : TellsMore a b (flat_map f (take k xs)) → TellsMore b c (f x) → TellsMore a c (flat_map f (take (k + 1) xs))
     tells-next p q = subst (TellsMore a c) (sym (flat-next f)) (then-more a b c (flat_map f (take k xs)) (f x) p q)
 
-  module _ {S : Type 0} (f : X → Shown) (b c : HashMap SharedName Held S) where
+  module _ (f : X → Shown) (b c : BTreeMap SharedName Held) where
     pub rivals-next : AreRivals b (flat_map f (take k xs)) → TellsMore b c (f x) → AreRivals c (flat_map f (take (k + 1) xs))
     rivals-next h q = subst (AreRivals c) (sym (flat-next f)) (q (flat_map f (take k xs)) h)
 

@@ -1,11 +1,10 @@
 -- For the code: all that is shown from the stops of the mentions' ways, and what follows for one
 -- of them.
 use Rattle.std.specs.Prelude.{◌≡◌, ◌+◌, ℕ, Bool, List, [], ◌∷◌, Option, None, Some, if◌then◌else◌, is_some, length, map}
-use Rattle.std.specs.HashMap.{get}
 use Rattle.std.specs.List.{enumerate_from, flat_map, list_any, range_with_len}
 use Rattle.csl_values.specs.declared.names.DisambiguatedNameForm.{DisambiguatedNameForm}
 use Rattle.csl_telling.specs.Known.{rival_form}
-use Rattle.csl_telling.specs.Rivals.{AreRivals, Shown, at_node, is_other_held, keys_at, same_name}
+use Rattle.csl_telling.specs.Rivals.{AreRivals, Shown, at_node, held_for, is_other_held, keys_at}
 use Rattle.csl_telling.specs.Telling.{form_needed, greatest, names_needed}
 use Rattle.csl_telling.specs.contracts.rivals.NodePartialEq.TheImpl as node_eq
 use Rattle.csl_telling.specs.declared.gathered.Gathered.{Gathered}
@@ -55,8 +54,8 @@ count_of i other_goes_on other_ends = if other_goes_on then i + 1 else (if other
 
 -- where the mention itself goes on, or ends
 abbrev pub count_from : Gathered → ℕ → Node → Option Look → ℕ
-count_from g i n None = if is_some (get same_name g.beside (at_node n)) then i else 0
-count_from g i n (Some r) = count_of i (is_other_held r (get same_name g.beside (at_node n)))
+count_from g i n None = if is_some (held_for g.beside (at_node n)) then i else 0
+count_from g i n (Some r) = count_of i (is_other_held r (held_for g.beside (at_node n)))
     (is_end n g.ends.keys)
 
 abbrev pub count_at : Gathered → ℕ × Stop → ℕ

@@ -1,10 +1,10 @@
 -- For the code: what is known of the persons of a document.
 use Rattle.std.specs.Prelude.{List, take}
-use Rattle.std.specs.HashMap.{HashMap, get}
+use Rattle.std.specs.BTreeMap.{BTreeMap}
 use Rattle.std.specs.List.{flat_map}
 use Rattle.csl_values.specs.declared.names.DisambiguatedNameForm.{DisambiguatedNameForm}
 use Rattle.csl_telling.specs.Looks.{full_look, has_given}
-use Rattle.csl_telling.specs.Rivals.{AreRivals, Shown, by_family, by_initials, form_by, is_other_held, named_keys, same_name}
+use Rattle.csl_telling.specs.Rivals.{AreRivals, Shown, by_family, by_initials, form_by, held_for, is_other_held, named_keys}
 use Rattle.csl_telling.specs.declared.document.Document.{Document}
 use Rattle.csl_telling.specs.declared.look.Look.{Look}
 use Rattle.csl_telling.specs.declared.mention.MentionedName.{MentionedName}
@@ -18,11 +18,10 @@ abbrev pub everywhere : Node
 everywhere = Node.Start 0
 
 -- the form that a look in full needs among the rivals at a node
-abbrev pub rival_form : {S : Type 0} → HashMap SharedName Held S → Node → Look
-    → DisambiguatedNameForm
+abbrev pub rival_form : BTreeMap SharedName Held → Node → Look → DisambiguatedNameForm
 rival_form rivals node r = form_by (has_given r)
-    (is_other_held r (get same_name rivals (by_family node r)))
-    (is_other_held r (get same_name rivals (by_initials node r)))
+    (is_other_held r (held_for rivals (by_family node r)))
+    (is_other_held r (held_for rivals (by_initials node r)))
 
 -- a person of a document, by the names
 abbrev pub person_keys : MentionedName → Shown

@@ -1,9 +1,10 @@
 -- For the code: the looks that go on from a node, by what they share.
 use Rattle.std.specs.Prelude.{◌≡◌, Bool, not, true, false, ◌&&◌, List, [], ◌∷◌, ◌++◌, Option, None, Some, if◌then◌else◌, is_some}
-use Rattle.std.specs.HashMap.{HashMap, get}
+use Rattle.std.specs.BTreeMap.{BTreeMap, get}
 use Rattle.std.specs.List.{list_any}
 use Rattle.csl_values.specs.declared.names.DisambiguatedNameForm.{DisambiguatedNameForm}
 use Rattle.csl_telling.specs.Looks.{initials_of, same_look}
+use Rattle.csl_telling.specs.contracts.rivals.SharedNameOrd.TheImpl as name_ord
 use Rattle.csl_telling.specs.contracts.rivals.SharedNamePartialEq.TheImpl as name_eq
 use Rattle.csl_telling.specs.declared.look.Look.{Look}
 use Rattle.csl_telling.specs.declared.rivals.Held.{Held}
@@ -60,16 +61,19 @@ named_keys n r = (by_family n r, r) ∷ (by_initials n r, r) ∷ []
 abbrev pub keys_at : Bool → Node → Look → Shown
 keys_at by_cite n r = (at_node n, r) ∷ (if by_cite then named_keys n r else [])
 
-module _ {S : Type 0} where
-  -- they tell of any look and name what all that is shown does
-  pub record AreRivals (rivals : HashMap SharedName Held S) (es : Shown) : Type 0 where
-    pub others : (name : SharedName) (r : Look) → is_other_held r (get same_name rivals name)
-        ≡ is_other_shown name r es
-    pub held : (name : SharedName) → is_some (get same_name rivals name) ≡ is_shown name es
+-- what is held for a name
+abbrev pub held_for : BTreeMap SharedName Held → SharedName → Option Held
+held_for rivals name = get (name_ord.ghosts).cmp rivals name
 
-  -- what was told of these is now told of more
-  abbrev pub TellsMore : HashMap SharedName Held S → HashMap SharedName Held S → Shown → Type 0
-  TellsMore old new more = (es : Shown) → AreRivals old es → AreRivals new (es ++ more)
+-- they tell of any look and name what all that is shown does
+pub record AreRivals (rivals : BTreeMap SharedName Held) (es : Shown) : Type 0 where
+  pub others : (name : SharedName) (r : Look) → is_other_held r (held_for rivals name)
+      ≡ is_other_shown name r es
+  pub held : (name : SharedName) → is_some (held_for rivals name) ≡ is_shown name es
+
+-- what was told of these is now told of more
+abbrev pub TellsMore : BTreeMap SharedName Held → BTreeMap SharedName Held → Shown → Type 0
+TellsMore old new more = (es : Shown) → AreRivals old es → AreRivals new (es ++ more)
 
 -- the form of a look: by whether it has a given name, whether another is of its family name, and
 -- whether another is of its initials too

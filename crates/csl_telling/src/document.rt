@@ -13,7 +13,7 @@ use crate::rivals::{Node, Rivals, add_named, needed_form};
 use csl_style_values::style::DisambiguationRule;
 use csl_values::names::DisambiguatedNameForm;
 use std::alloc::{AllocError, Global};
-use std::collections::HashMap;
+use std::collections::BTreeMap;
 
 /// The persons of a document, by the names that they share.
 #[derive(Drop)]
@@ -55,7 +55,7 @@ fn all_rivals(alloc: Global, mentions: &[NamedMention]) -> Result<Rivals, AllocE
     ensures { IfOk result (λ r. AreRivals r
         (flat_map (λ m. flat_map person_keys m.names) mentions.now)) }
 {
-    let mut rivals = HashMap::new(alloc);
+    let mut rivals = BTreeMap::new(alloc);
     for mention in mentions {
         add_names(alloc, &mut rivals, mention.names.as_slice())?;
     }
@@ -66,7 +66,7 @@ fn first_rivals(alloc: Global, mentions: &[NamedMention]) -> Result<Rivals, Allo
     ensures { IfOk result (λ r. AreRivals r
         (flat_map (λ m. flat_map person_keys (take 1 m.names)) mentions.now)) }
 {
-    let mut rivals = HashMap::new(alloc);
+    let mut rivals = BTreeMap::new(alloc);
     for mention in mentions {
         add_first(alloc, &mut rivals, mention.names.as_slice())?;
     }

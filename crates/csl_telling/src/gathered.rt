@@ -1,4 +1,4 @@
-//! Names that tell mentions of a group apart. All looks that go on from a node are known by what
+//! Names that disambiguate mentions of a group. All looks that go on from a node are known by what
 //! they share; so for each name of a mention it is asked whether another one goes on, or ends,
 //! where the names before it lead.
 ghost use Rattle.std.specs.Prelude.{◌≡◌, ◌+◌, ◌<◌, ◌++◌, ◌^◌, IfOk, OnOk, map};
@@ -14,7 +14,7 @@ use csl_lists::seq::Seq;
 use csl_values::names::DisambiguatedNameForm;
 use indexmap::IndexSet;
 use std::alloc::{AllocError, Global};
-use std::collections::HashMap;
+use std::collections::BTreeMap;
 
 /// All that is shown from the stops of mentions.
 #[derive(Drop)]
@@ -24,7 +24,7 @@ pub(crate) struct Gathered {
     pub(crate) ends: IndexSet<Node>,
 }
 
-/// What a mention needs to be told from the others of its group.
+/// What a mention needs to be disambiguated from the others of its group.
 #[derive(Drop)]
 pub(crate) struct Needs {
     /// How many names have to be shown.
@@ -84,7 +84,7 @@ fn add_ends(ends: &mut IndexSet<Node>, way: &Way) -> Result<(), AllocError>
 pub(crate) fn gather(alloc: Global, ways: &[Way]) -> Result<Gathered, AllocError>
     ensures { IfOk result (λ g. IsGathered g ways.now) }
 {
-    let mut beside = HashMap::new(alloc);
+    let mut beside = BTreeMap::new(alloc);
     let mut ends = IndexSet::new(alloc);
     for way in ways {
         add_way(alloc, &mut beside, way)?;

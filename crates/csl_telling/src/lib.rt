@@ -1,4 +1,4 @@
-//! Mentions of entries that read alike are told apart by their names (CSL 1.0.2, disambiguation,
+//! Mentions of entries that read alike are disambiguated by their names (CSL 1.0.2, disambiguation,
 //! steps 1 and 2).
 #![tactic(auto)]
 

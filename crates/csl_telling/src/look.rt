@@ -9,7 +9,7 @@ use csl_values::names::DisambiguatedNameForm;
 use std::alloc::{AllocError, Global};
 
 /// What is shown of a given name.
-#[derive(Clone, PartialEq, Eq, Hash, Drop)]
+#[derive(Clone, PartialEq, Eq, PartialOrd, Ord, Hash, Drop)]
 pub enum GivenShown {
     /// Nothing, or there is none with initials.
     Nothing,
@@ -20,7 +20,7 @@ pub enum GivenShown {
 }
 
 /// How a person looks in some form.
-#[derive(Clone, PartialEq, Eq, Hash, Drop)]
+#[derive(Clone, PartialEq, Eq, PartialOrd, Ord, Hash, Drop)]
 pub struct Look {
     /// The family name.
     pub name: Text,

@@ -1,4 +1,4 @@
-//! Mentions of entries, as far as names can tell them apart.
+//! Mentions of entries, as far as names can disambiguate them.
 use csl_lists::seq::Seq;
 use csl_style_values::style::DisambiguationRule;
 use csl_values::entry::Person;

@@ -1,4 +1,4 @@
-//! What names can tell at most of the mentions of an ambiguous group.
+//! What names can show at most of the mentions of an ambiguous group.
 ghost use Rattle.std.specs.Prelude.{◌≡◌, IfOk, option_map};
 ghost use Rattle.csl_telling.specs.ByDocument.{document_form as specified_form};
 ghost use Rattle.csl_telling.specs.Forms.{base};

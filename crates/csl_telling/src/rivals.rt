@@ -1,17 +1,16 @@
 //! Who is named beside others, by what they share.
 ghost use Rattle.std.specs.Prelude.{◌≡◌, ◌∷◌, [], None, Some, OnOk, IfOk, is_some};
-ghost use Rattle.std.specs.HashMap.{get};
-ghost use Rattle.csl_telling.specs.Rivals.{TellsMore, at_node, by_family, by_initials, form_by, held_with, is_other, is_other_held, joined, keys_at, named_keys, same_name};
+ghost use Rattle.csl_telling.specs.Rivals.{TellsMore, at_node, by_family, by_initials, form_by, held_for, held_with, is_other, is_other_held, joined, keys_at, named_keys};
 ghost use Rattle.csl_telling.specs.Looks.{has_given};
 
 use crate::look::Look;
 use csl_lists::text::Text;
 use csl_values::names::DisambiguatedNameForm;
 use std::alloc::{AllocError, Global};
-use std::collections::HashMap;
+use std::collections::BTreeMap;
 
 /// Where names lead from the beginning of a mention.
-#[derive(Clone, Copy, PartialEq, Eq, Hash)]
+#[derive(Clone, Copy, PartialEq, Eq, PartialOrd, Ord, Hash)]
 pub(crate) enum Node {
     /// Before the first name, in this group.
     Start(usize),
@@ -21,7 +20,7 @@ pub(crate) enum Node {
 
 /// What looks share that go on from one node: nothing else, a family name, or this and the
 /// initials.
-#[derive(PartialEq, Eq, Hash, Drop)]
+#[derive(PartialEq, Eq, PartialOrd, Ord, Drop)]
 pub(crate) struct SharedName {
     pub(crate) node: Node,
     pub(crate) name: Option<Text>,
@@ -35,8 +34,8 @@ pub(crate) enum Held {
     Several,
 }
 
-/// For each shared name, enough of the looks to tell of any whether there is another.
-pub(crate) type Rivals = HashMap<SharedName, Held>;
+/// For each shared name, enough of the looks to decide for any whether there is another.
+pub(crate) type Rivals = BTreeMap<SharedName, Held>;
 
 /// Whether another look than this one is held.
 fn is_other(held: &Held, look: &Look) -> bool
@@ -66,7 +65,7 @@ fn joined(held: &Held, look: &Look) -> Result<Held, AllocError>
 
 /// What is held for a name once this look was added.
 fn held_with(rivals: &Rivals, name: &SharedName, look: &Look) -> Result<Held, AllocError>
-    ensures { IfOk result (λ h. h ≡ held_with look.now (get same_name rivals.now name.now)) }
+    ensures { IfOk result (λ h. h ≡ held_with look.now (held_for rivals.now name.now)) }
 {
     match rivals.get(name) {
         Some(held) => joined(held, look),
@@ -154,14 +153,14 @@ pub(crate) fn add_at(
 
 /// Whether something goes on from there.
 pub(crate) fn is_held(rivals: &Rivals, name: &SharedName) -> bool
-    ensures { result ≡ is_some (get same_name rivals.now name.now) }
+    ensures { result ≡ is_some (held_for rivals.now name.now) }
 {
     rivals.get(name).is_some()
 }
 
 /// Whether another look than this one shares the name.
 pub(crate) fn has_other(rivals: &Rivals, name: &SharedName, look: &Look) -> bool
-    ensures { result ≡ is_other_held look.now (get same_name rivals.now name.now) }
+    ensures { result ≡ is_other_held look.now (held_for rivals.now name.now) }
 {
     match rivals.get(name) {
         Some(held) => is_other(held, look),
@@ -178,8 +177,8 @@ pub(crate) fn needed_form(
     look: &Look,
 ) -> Result<DisambiguatedNameForm, AllocError>
     ensures { IfOk result (λ f. f ≡ form_by (has_given look.now)
-        (is_other_held look.now (get same_name rivals.now (by_family node look.now)))
-        (is_other_held look.now (get same_name rivals.now (by_initials node look.now)))) }
+        (is_other_held look.now (held_for rivals.now (by_family node look.now)))
+        (is_other_held look.now (held_for rivals.now (by_initials node look.now)))) }
 {
     if !look.has_given() || !has_other(rivals, &by_family(node, look)?, look) {
         return Ok(DisambiguatedNameForm::Short);

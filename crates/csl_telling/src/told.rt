@@ -1,4 +1,4 @@
-//! What tells mentions apart by their names (CSL 1.0.2, disambiguation, steps 1 and 2).
+//! What disambiguates mentions by their names (CSL 1.0.2, disambiguation, steps 1 and 2).
 ghost use Rattle.std.specs.Prelude.{◌≡◌, IfOk, map};
 ghost use Rattle.csl_telling.specs.Forms.{same_forms};
 ghost use Rattle.csl_telling.specs.Known.{KnowsDocument};
@@ -13,7 +13,7 @@ use crate::mention::{MentionedName, NamedMention};
 use crate::ways::ways_of;
 use csl_lists::seq::Seq;
 use csl_values::names::{DisambiguatedNameForm, NameDisambiguationProperties};
-use indexmap::IndexSet;
+use ordered_set::set::OrderedSet;
 use std::alloc::{AllocError, Global};
 
 /// The form that name `i` needs against others of its group; the short one past the last that was
@@ -27,7 +27,7 @@ fn form_needed(needs: &Needs, i: usize) -> DisambiguatedNameForm
     }
 }
 
-/// The forms of a mention's names where they are told apart.
+/// The forms of a mention's names where they are disambiguated.
 fn raised_forms(
     alloc: Global,
     mentions: &[NamedMention],
@@ -84,14 +84,14 @@ fn told(
     }))
 }
 
-/// What tells each of the mentions apart by its names: the forms of its names, or none where they
+/// What disambiguates each of the mentions by its names: the forms of its names, or none where they
 /// stay those in which its style writes them by itself.
 ///
 /// Names are looked at one after the other. The first one at which two mentions of a group differ
-/// is shown by both, in a form that tells it where given names are added cite by cite; where one
-/// has no more names there, those before it are. A mention shows as many names as it needs
-/// against some other of its group. By any other rule given names are expanded in all mentions of
-/// the document, as far as other persons ask for it.
+/// is shown by both, in a form that disambiguates it where given names are added cite by cite;
+/// where one has no more names there, those before it are. A mention shows as many names as it
+/// needs against some other of its group. By any other rule given names are expanded in all
+/// mentions of the document, as far as other persons ask for it.
 ///
 /// # Errors
 ///
@@ -103,7 +103,7 @@ pub fn tell_apart_by_names(
     ensures { IfOk result (λ v. v.items ≡ map (told_by_names mentions.now) mentions.now) }
 {
     let document = persons_of(alloc, mentions)?;
-    let mut steps = IndexSet::new(alloc);
+    let mut steps = OrderedSet::new(alloc);
     let ways = ways_of(alloc, mentions, &document, &mut steps)?;
     let gathered = gather(alloc, &ways)?;
     let mut found = Vec::with_capacity(alloc, mentions.len())?;

@@ -10,11 +10,11 @@ use crate::mention::NamedMention;
 use crate::reach::{Reach, reach_of};
 use crate::rivals::Node;
 use csl_lists::seq::Seq;
-use indexmap::IndexSet;
+use ordered_set::set::OrderedSet;
 use std::alloc::{AllocError, Global};
 
 /// From a node on by the look of one more name.
-#[derive(PartialEq, Eq, Hash, Drop)]
+#[derive(PartialEq, Eq, PartialOrd, Ord, Drop)]
 pub(crate) struct Step {
     pub(crate) from: Node,
     pub(crate) look: Look,
@@ -40,7 +40,7 @@ pub(crate) struct Way {
 /// The stops on the way of these looks.
 fn stops_of(
     alloc: Global,
-    steps: &mut IndexSet<Step>,
+    steps: &mut OrderedSet<Step>,
     group: usize,
     looks: &[Look],
 ) -> Result<Vec<Stop>, AllocError>
@@ -55,18 +55,22 @@ fn stops_of(
             node,
             look: Some(look.copied()?),
         })?;
-        let made = steps.insert_full(Step {
+        let step = Step {
             from: node,
             look: look.copied()?,
-        })?;
-        node = Node::Step(made.0);
+        };
+        let copy = Step {
+            from: node,
+            look: look.copied()?,
+        };
+        node = Node::Step(steps.insert(step, copy)?);
     }
     stops.push(Stop { node, look: None })?;
     Ok(stops)
 }
 
 /// The way of a mention.
-fn way_of(alloc: Global, steps: &mut IndexSet<Step>, reach: &Reach) -> Result<Way, AllocError>
+fn way_of(alloc: Global, steps: &mut OrderedSet<Step>, reach: &Reach) -> Result<Way, AllocError>
     ensures way { IfOk result (λ w. w ≡ way_of steps.new.keys reach.now) }
     ensures made { OnOk result (AllMade steps.new.keys reach.now) }
     ensures extends { OnOk result (Extends steps.old.keys steps.new.keys) }
@@ -86,7 +90,7 @@ pub(crate) fn ways_of(
     alloc: Global,
     mentions: &[NamedMention],
     document: &Document,
-    steps: &mut IndexSet<Step>,
+    steps: &mut OrderedSet<Step>,
 ) -> Result<Vec<Way>, AllocError>
     requires { KnowsDocument document.now mentions.now }
     ensures ways { IfOk result (λ v. v.items

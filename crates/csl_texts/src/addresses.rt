@@ -151,18 +151,18 @@ impl Identifier {
     /// The identifier in a text, and whether the address of a resolver stands before it.
     fn split(self, text: &str) -> (&str, bool) {
         let text = text.trim_matches(is_blank);
-        let text = behind(text, self.label())
+        let text = without_beginning(text, self.label())
             .unwrap_or(text)
             .trim_matches(is_blank);
         for resolver in self.resolvers() {
-            if let Some(name) = behind(text, *resolver) {
+            if let Some(name) = without_beginning(text, *resolver) {
                 return (name, true);
             }
         }
         (text, false)
     }
 
-    /// What of a text is the identifier: it may stand behind the address of a resolver.
+    /// What of a text is the identifier: it may follow the address of a resolver.
     pub fn name_in(self, text: &str) -> &str {
         let (name, _is_of_address) = self.split(text);
         name
@@ -177,7 +177,7 @@ impl Identifier {
                 None => false,
             },
             Identifier::Pmid => is_number(text),
-            Identifier::Pmcid => is_number(behind(text, "PMC").unwrap_or(text)),
+            Identifier::Pmcid => is_number(without_beginning(text, "PMC").unwrap_or(text)),
         }
     }
 }
@@ -187,8 +187,8 @@ fn is_number(text: &str) -> bool {
 }
 
 /// The address of the resolver to which an identifier leads. White space and control characters
-/// around it don't count, and it may stand behind the address of a resolver, or behind its label,
-/// as `doi:`. `None` where a text is no such identifier.
+/// around it don't count, and it may follow the address of a resolver, or its label, as
+/// `doi:`. `None` where a text is no such identifier.
 ///
 /// # Errors
 ///
@@ -212,8 +212,8 @@ pub fn identifier_address(
     Ok(Some(address))
 }
 
-/// A text without what begins with it, in any case; `None` where it begins otherwise.
-fn behind<'t>(text: &'t str, beginning: &str) -> Option<&'t str> {
+/// A text without its beginning, in any case. `None` where it begins otherwise.
+pub fn without_beginning<'t>(text: &'t str, beginning: &str) -> Option<&'t str> {
     let (head, rest) = text.split_at_checked(beginning.len())?;
     head.eq_ignore_ascii_case(beginning).then_some(rest)
 }

@@ -27,7 +27,7 @@ impl Language {
 }
 
 /// What a tag begins with: `en` of `en-GB`. Words may follow the tag, as in `en English`.
-pub(crate) fn primary_language(tag: &str) -> &str {
+fn primary_language(tag: &str) -> &str {
     tag.trim_start()
         .split(|c: char| !c.is_ascii_alphanumeric())
         .next()
@@ -58,7 +58,7 @@ pub fn in_case(
     Recasing::new(alloc, text, &[], case, language)?.apply(alloc, text, 0)
 }
 
-/// What a case changes in a text, told for the whole text, so that its parts can be changed one by
+/// What a case changes in a text, found for the whole text, so that its parts can be changed one by
 /// one: a word may reach from one part into the next.
 #[derive(Drop)]
 pub struct Recasing {

@@ -4,7 +4,7 @@ use std::alloc::{AllocError, Global};
 /// How initials are made of given names.
 #[derive(Clone, Copy, Debug)]
 pub struct Initials<'a> {
-    /// What stands behind each initial (initialize-with).
+    /// What follows each initial (initialize-with).
     pub mark: &'a str,
     /// Whether initials of a compound name have a hyphen between them (initialize-with-hyphen).
     pub has_hyphens: bool,
@@ -135,7 +135,7 @@ struct Tagged<'n> {
     behind: &'n str,
 }
 
-/// A name without the tags that stand before it, and those that stand behind it.
+/// A name without the tags before it and after it, and these tags.
 fn split_tags(text: &str) -> Tagged<'_> {
     let mut inside = text;
     for _ in 0..text.len() {

@@ -2,7 +2,6 @@
 #![tactic(auto)]
 
 pub mod addresses;
-pub mod alphabets;
 pub mod cases;
 pub mod initials;
 pub mod lines;

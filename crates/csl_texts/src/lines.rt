@@ -1,8 +1,13 @@
 //! Texts of one line.
+ghost use Rattle.std.specs.Prelude.{◌≡◌};
+ghost use Rattle.csl_texts.specs.Lines.{is_of_no_line};
+
 use std::alloc::AllocError;
 
 /// Whether a character is a control character or ends a line.
-pub fn is_control(c: char) -> bool {
+pub fn is_control(c: char) -> bool
+    ensures { result ≡ is_of_no_line c }
+{
     c.is_control() || matches!(c, '\u{2028}' | '\u{2029}')
 }
 

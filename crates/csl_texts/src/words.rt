@@ -1,4 +1,4 @@
-//! The words of a text, whose case is told by themselves and by what stands before them.
+//! The words of a text. Their case depends on themselves and on what stands before them.
 use crate::cases::Span;
 use std::alloc::{AllocError, Global};
 use unicode::properties::is_grapheme_extend;

@@ -1,8 +1,7 @@
 -- Names as they are shown, numbered by the first mentions that show them.
 use Rattle.std.proofs.Common.{◌≡◌, ℕ, ◌+◌, ◌/◌, ◌<◌, ◌≤◌, Bool, true, false, cond, min, Option, Some, None, List, [], ◌∷◌, ◌++◌, length, map, take, get_or, refl, ap, sym, subst, ◌∙◌, true≢false, arith, unwrap_or}
-use Rattle.std.specs.Prelude.{find, option_map}
-use Rattle.std.specs.Borrow.{Bor}
-use Rattle.std.specs.HashMap.{HashMap}
+use Rattle.std.specs.Prelude.{find, is_some, option_map}
+use Rattle.std.specs.BTreeMap.{BTreeMap, is_at}
 use Rattle.std.specs.List.{enumerate_from, zip}
 use Rattle.std.specs.Map.{lookup}
 use Rattle.std.specs.Option.{option_map_or, option_or}
@@ -17,7 +16,7 @@ use Rattle.csl_shown.specs.declared.shown.ShownNames.{ShownNames}
 use Rattle.csl_tables.proofs.Changing.{take-next, zip-at}
 use Rattle.csl_tables.proofs.Walking.{pushed-next}
 use Rattle.csl_told_cites.specs.Mentions.{first_with_names, kept_last, mention_index, same_names, told_mention}
-use Rattle.csl_told_cites.specs.NotedNames.{first_noted}
+use Rattle.csl_told_cites.specs.NotedNames.{first_noted, names_cmp}
 use Rattle.csl_told_cites.specs.declared.mentions.ToldMention.{ToldMention}
 
 names_find : Finds same_names
@@ -38,21 +37,34 @@ pub or-none : (o : Option ℕ) → o ≡ option_or o None
 or-none None = refl
 or-none (Some x) = refl
 
-first-kept : (o : Option ℕ) (k : ℕ) → Some (unwrap_or o k) ≡ option_or o (Some k)
-first-kept None k = refl
-first-kept (Some x) k = refl
-
--- some names noted: they keep the first mention that shows them
-pub noted-more : {S : Type 0} (old new : HashMap (Bor ShownNames) ℕ S) (names : ShownNames) (k first : ℕ) → first ≡ unwrap_or (first_noted old names) k
-    → ((n : ShownNames) → first_noted new n ≡ cond (same_names names n) (Some first) (first_noted old n))
-    → (n : ShownNames) → first_noted new n ≡ option_or (first_noted old n) (cond (same_names n names) (Some k) None)
-noted-more old new names k first is at n = at n ∙ by (same_names names n) refl
+-- names that were noted before keep the first mention that shows them
+pub noted-before : (noted : BTreeMap ShownNames ℕ) (names : ShownNames) (k : ℕ) → is_some (first_noted noted names) ≡ true
+    → (n : ShownNames) → first_noted noted n ≡ option_or (first_noted noted n) (cond (same_names n names) (Some k) None)
+noted-before noted names k there n = by (same_names n names) refl
   where
-    by : (b : Bool) → same_names names n ≡ b → cond b (Some first) (first_noted old n) ≡ option_or (first_noted old n) (cond (same_names n names) (Some k) None)
+    is-first : (o : Option ℕ) → is_some o ≡ true → o ≡ option_or o (Some k)
+    is-first (Some x) e = refl
+    is-first None e = absurd (true≢false (sym e))
+
+    by : (b : Bool) → same_names n names ≡ b → first_noted noted n ≡ option_or (first_noted noted n) (cond b (Some k) None)
+    by true p = is-first (first_noted noted n) (ap (λ m. is_some (first_noted noted m)) (names_find.equal n names p) ∙ there)
+    by false p = or-none (first_noted noted n)
+
+-- new names keep the mention that shows them
+pub noted-more : (old new : BTreeMap ShownNames ℕ) (names : ShownNames) (k : ℕ) → is_some (first_noted old names) ≡ false
+    → ((n : ShownNames) → first_noted new n ≡ cond (same_names names n) (Some k) (first_noted old n))
+    → (n : ShownNames) → first_noted new n ≡ option_or (first_noted old n) (cond (same_names n names) (Some k) None)
+noted-more old new names k none at n = at n ∙ by (same_names names n) refl
+  where
+    is-new : (o : Option ℕ) → is_some o ≡ false → Some k ≡ option_or o (Some k)
+    is-new None e = refl
+    is-new (Some x) e = absurd (true≢false e)
+
+    by : (b : Bool) → same_names names n ≡ b → cond b (Some k) (first_noted old n) ≡ option_or (first_noted old n) (cond (same_names n names) (Some k) None)
     by true p =
         let one : names ≡ n = names_find.equal names n p in
         let own : same_names n names ≡ true = ap (same_names n) one ∙ names_find.self n in
-        ap Some is ∙ ap (λ m. Some (unwrap_or (first_noted old m) k)) one ∙ first-kept (first_noted old n) k
+        is-new (first_noted old n) (ap (λ m. is_some (first_noted old m)) (sym one) ∙ none)
         ∙ ap (λ b. option_or (first_noted old n) (cond b (Some k) None)) (sym own)
     by false p = or-none (first_noted old n) ∙ ap (λ b. option_or (first_noted old n) (cond b (Some k) None)) (sym (names-differ names n p))
 
@@ -76,9 +88,9 @@ first-push ms m n =
     by None false = refl
     by None true = ap Some (omega arith)
 
-pub none-noted : {S : Type 0} (noted : HashMap (Bor ShownNames) ℕ S) (lasts : List KeptOfMention) → noted.entries ≡ [] → (n : ShownNames) → first_noted noted n ≡ first_with_names (take 0 lasts) n
-none-noted noted [] empty n = ap (lookup (λ k. same_names n k.now)) empty
-none-noted noted (m ∷ lasts) empty n = ap (lookup (λ k. same_names n k.now)) empty
+pub none-noted : (noted : BTreeMap ShownNames ℕ) (lasts : List KeptOfMention) → noted.entries ≡ [] → (n : ShownNames) → first_noted noted n ≡ first_with_names (take 0 lasts) n
+none-noted noted [] empty n = ap (lookup (is_at (names_cmp n))) empty
+none-noted noted (m ∷ lasts) empty n = ap (lookup (is_at (names_cmp n))) empty
 
 -- the names of one more mention
 pub known-next : (lasts : List KeptOfMention) (k : ℕ) (last : KeptOfMention) → k < length lasts → take (k + 1) lasts ≡ take k lasts ++ last ∷ [] → (known more : ShownNames → Option ℕ)

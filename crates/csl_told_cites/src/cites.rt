@@ -31,10 +31,10 @@ use csl_passes::request::CitationRequest;
 use csl_writers::pushed::push;
 use std::alloc::{AllocError, Global};
 
-/// What is known of the mentions of all entries once they are told apart, and of the entries.
+/// What is known of the mentions of all entries once they are disambiguated, and of the entries.
 #[derive(Clone, Copy)]
 pub struct ToldEntries<'t> {
-    /// By mention, what tells it apart.
+    /// By mention, what disambiguates it.
     pub states: &'t [MentionState],
     /// By mention, what it shows.
     pub mentions: &'t [ToldMention],
@@ -97,7 +97,7 @@ fn told_properties<'a, P>(
     })
 }
 
-/// A cite of the entry at an index, of which nothing is written yet.
+/// A cite of the entry at an index. Nothing of the cite is written yet.
 fn told_cite<'a, T, P: Drop>(
     alloc: Global,
     told: &ToldEntries<'_>,
@@ -154,7 +154,7 @@ fn push_told<'a, T, P: Drop, L>(
     Ok(())
 }
 
-/// The cites of a request, of which this is known by those before them, in this order.
+/// The cites of a request in this order, with what is known of each by those before it.
 fn told_request<'r, 'a, T, P: Drop, L>(
     alloc: Global,
     told: &ToldEntries<'_>,

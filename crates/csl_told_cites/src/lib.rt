@@ -1,4 +1,4 @@
-//! The cites of requests once all mentions are told apart: what is known of each before it is
+//! The cites of requests once all mentions are disambiguated: what is known of each before it is
 //! arranged, and what arranging makes of it.
 #![tactic(auto)]
 

@@ -1,4 +1,4 @@
-//! What is known of mentions once all are told apart.
+//! What is known of mentions once all are disambiguated.
 ghost use Rattle.std.specs.Prelude.{◌≡◌, ◌+◌, ◌*◌, ◌^◌, ◌<◌, false, IfOk, None, OnOk, Some, if◌then◌else◌, option_map, slice_get, unwrap_or};
 ghost use Rattle.std.specs.Option.{option_and_then, option_map_or, option_or};
 ghost use Rattle.csl_shown.specs.declared.shown.ShownNames.{ShownNames as NamesValue};
@@ -23,14 +23,14 @@ use csl_runs::suffixes::Suffix;
 use csl_shown::shown::ShownNames;
 use csl_tables::tables::Told;
 use std::alloc::{AllocError, Global};
-use std::collections::HashMap;
+use std::collections::BTreeMap;
 
-/// What is known of a mention once all are told apart.
+/// What is known of a mention once all are disambiguated.
 #[derive(Clone, Copy)]
 pub struct ToldMention {
-    /// Which identifiers of its entry it had written where nothing told it apart.
+    /// Which identifiers of its entry it had written where nothing disambiguated it.
     pub usage: IdentifierUsage,
-    /// What it shows in the end. Its names and its text are told by the index of the first mention
+    /// What it shows in the end. Its names and its text are given by the index of the first mention
     /// that shows equal names, or has its text.
     pub shown: Shown,
 }
@@ -48,26 +48,38 @@ pub(crate) fn last_of<'k>(
     }
 }
 
+/// A copy of names.
+fn copied(names: &ShownNames) -> Result<ShownNames, AllocError>
+    ensures { IfOk result (λ copy. copy ≡ names.now) }
+{
+    Ok(ShownNames {
+        text: names.text.clone()?,
+        persons: names.persons.clone()?,
+    })
+}
+
 /// Notes that the mention at an index shows these names, if none before it does.
-fn note_shown<'k>(
-    noted: &mut HashMap<&'k ShownNames, usize>,
+fn note_shown(
+    noted: &mut BTreeMap<ShownNames, usize>,
     index: usize,
-    names: &'k ShownNames,
+    names: &ShownNames,
 ) -> Result<(), AllocError>
     ensures { OnOk result ((n : NamesValue) → first_noted noted.new n
         ≡ option_or (first_noted noted.old n)
         (if same_names n names.now then Some index else None)) }
 {
-    let first = noted.get(&names).copied().unwrap_or(index);
-    noted.insert(names, first)?;
+    if noted.contains_key(names) {
+        return Ok(());
+    }
+    noted.insert(copied(names)?, index)?;
     Ok(())
 }
 
 /// The same, if it shows any.
-fn note_names<'k>(
-    noted: &mut HashMap<&'k ShownNames, usize>,
+fn note_names(
+    noted: &mut BTreeMap<ShownNames, usize>,
     index: usize,
-    names: &'k Option<ShownNames>,
+    names: &Option<ShownNames>,
 ) -> Result<(), AllocError>
     ensures { OnOk result ((n : NamesValue) → first_noted noted.new n
         ≡ option_or (first_noted noted.old n)
@@ -84,15 +96,15 @@ fn note_names<'k>(
 /// # Errors
 ///
 /// Where memory is refused.
-pub fn noted_names<'k>(
+pub fn noted_names(
     alloc: Global,
-    firsts: &'k [KeptOfMention],
-    again: &'k [Option<KeptOfMention>],
-) -> Result<HashMap<&'k ShownNames, usize>, AllocError>
+    firsts: &[KeptOfMention],
+    again: &[Option<KeptOfMention>],
+) -> Result<BTreeMap<ShownNames, usize>, AllocError>
     ensures { IfOk result (λ noted. (n : NamesValue) → first_noted noted n
         ≡ first_with_names (kept_last firsts.now again.now) n) }
 {
-    let mut noted = HashMap::new(alloc);
+    let mut noted = BTreeMap::new(alloc);
     let count = firsts.len().min(again.len());
     for k in 0..count {
         let last = last_of(&firsts[k], &again[k]);
@@ -102,18 +114,18 @@ pub fn noted_names<'k>(
 }
 
 /// The index of the first mention that shows these names.
-fn first_of(noted: &HashMap<&ShownNames, usize>, names: &Option<ShownNames>) -> Option<usize>
+fn first_of(noted: &BTreeMap<ShownNames, usize>, names: &Option<ShownNames>) -> Option<usize>
     ensures { result ≡ option_and_then (first_noted noted.now) names.now }
 {
     match names {
-        Some(names) => noted.get(&names).copied(),
+        Some(names) => noted.get(names).copied(),
         None => None,
     }
 }
 
-/// What is known of a mention of which this was kept at first and again, and which reads so.
+/// What is known of a mention, by what was kept of it at first and again, and by how it reads.
 fn told_mention(
-    noted: &HashMap<&ShownNames, usize>,
+    noted: &BTreeMap<ShownNames, usize>,
     first: &KeptOfMention,
     again: &Option<KeptOfMention>,
     text: Option<usize>,
@@ -135,7 +147,7 @@ fn told_mention(
 /// What is known of mentions whose names were noted.
 fn mentions_by(
     alloc: Global,
-    noted: &HashMap<&ShownNames, usize>,
+    noted: &BTreeMap<ShownNames, usize>,
     firsts: &[KeptOfMention],
     again: &[Option<KeptOfMention>],
     texts: &[Option<usize>],
@@ -152,7 +164,8 @@ fn mentions_by(
     Ok(mentions)
 }
 
-/// What is known of the mentions that were told apart, in their order, by the names that they show.
+/// What is known of the mentions that were disambiguated, in their order, by the names that they
+/// show.
 ///
 /// # Errors
 ///
@@ -160,7 +173,7 @@ fn mentions_by(
 pub fn told_mentions(
     alloc: Global,
     told: &Told<KeptOfMention>,
-    noted: &HashMap<&ShownNames, usize>,
+    noted: &BTreeMap<ShownNames, usize>,
 ) -> Result<Vec<ToldMention>, AllocError>
     requires { (n : NamesValue) → first_noted noted.now n
         ≡ first_with_names (kept_last told.now.firsts.items told.now.again.items) n }
@@ -170,7 +183,7 @@ pub fn told_mentions(
     mentions_by(alloc, noted, &told.firsts, &told.again, &told.texts)
 }
 
-/// A mention of which nothing is known.
+/// A mention that nothing is known of.
 fn unshown() -> ToldMention
     ensures { result ≡ unshown }
 {

@@ -41,21 +41,21 @@ use csl_writers::counter::Renders;
 use csl_writers::pushed::push;
 use csl_writers::writer::CiteWriter;
 use std::alloc::{AllocError, Global};
-use std::collections::HashMap;
+use std::collections::BTreeMap;
 
-/// What is known of all mentions once they are told apart.
+/// What is known of all mentions once they are disambiguated.
 #[derive(Clone, Copy)]
 pub struct MentionsTold<'k, 'm, 'n> {
-    /// What tells them apart, and what was kept of them.
+    /// What disambiguates them, and what was kept of them.
     pub told: &'k Told<KeptOfMention>,
     /// What they show.
     pub mentions: &'m [ToldMention],
     /// The names that they show, each with the index of the first mention that shows them.
-    pub noted: &'n HashMap<&'k ShownNames, usize>,
+    pub noted: &'n BTreeMap<ShownNames, usize>,
 }
 
-/// What the cites at some places show that repeat these mentions, each of which is written for it:
-/// nothing is said of a cite that repeats none.
+/// What the cites at some places show that repeat these mentions. Each of the mentions is written
+/// for it; nothing is said of a cite that repeats none.
 ///
 /// # Errors
 ///
@@ -171,7 +171,7 @@ fn write_as_told<T: EntryLike, P: Drop, W: CiteWriter<T, P>>(
     }
 }
 
-/// The state of a mention that nothing tells apart.
+/// The state of a mention that nothing disambiguates.
 fn untold() -> MentionState
     ensures { result ≡ untold }
 {
@@ -181,7 +181,7 @@ fn untold() -> MentionState
     }
 }
 
-/// What the cite at a place shows that repeats a mention of which this was kept.
+/// What the cite at a place shows that repeats a mention, by what was kept of the mention.
 fn shown_by(
     known: MentionsTold<'_, '_, '_>,
     place: usize,
@@ -214,19 +214,19 @@ fn shown_by(
 
 /// The number of names: the index of the first mention that shows them, or else this one.
 fn names_by(
-    noted: &HashMap<&ShownNames, usize>,
+    noted: &BTreeMap<ShownNames, usize>,
     own: usize,
     names: &Option<ShownNames>,
 ) -> Option<usize>
     ensures { result ≡ option_map (λ n. unwrap_or (first_noted noted.now n) own) names.now }
 {
     match names {
-        Some(names) => Some(noted.get(&names).copied().unwrap_or(own)),
+        Some(names) => Some(noted.get(names).copied().unwrap_or(own)),
         None => None,
     }
 }
 
-/// Whether a mention of which this was kept reads as it did where it repeated nothing.
+/// Whether a mention reads, by what was kept of it, as it did where it repeated nothing.
 fn reads_alike(told: &Told<KeptOfMention>, repeated: Repeated, kept: &KeptOfMention) -> bool
     ensures { result
         ≡ reads_alike (kept_last told.now.firsts.items told.now.again.items) repeated kept.now }

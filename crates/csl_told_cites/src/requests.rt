@@ -77,7 +77,7 @@ fn request_facts<T, P>(request: &CitationRequest<'_, T, P>) -> RequestFacts
     }
 }
 
-/// A cite of the entry at an index, of which this is known by those before it.
+/// A cite of the entry at an index, with what is known of it by those before it.
 fn plain_cite<'r, 'a, T, P>(
     item: &'r CitationItem<'a, T, P>,
     entry: usize,

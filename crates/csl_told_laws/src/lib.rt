@@ -1,4 +1,4 @@
-//! Laws of what tells mentions apart: what a caller may rely on of the states of all mentions and
+//! Laws of what disambiguates mentions: what a caller may rely on of the states of all mentions and
 //! the year suffixes of all entries, whatever a writer writes.
 #![tactic(auto)]
 

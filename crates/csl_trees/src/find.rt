@@ -13,7 +13,7 @@ use crate::elem::{Elem, ElemChild, ElemChildren, ElemMeta};
 impl ElemChildren {
     /// The first element in preorder that the test accepts: an element comes before those in it,
     /// and those in it before those after it. `None` where it accepts none. The test has to accept
-    /// any element as its argument. `found` tells the answer of tests that answer equal elements
+    /// any element as its argument. `found` gives the answer of tests that answer equal elements
     /// alike.
     pub fn find_elem_by<F: Fn(&Elem) -> bool>(&self, test: F) -> Option<&Elem>
         requires { F.IsAlwaysCallable test }

@@ -21,7 +21,7 @@ impl fmt::Display for ElemChildren {
 impl ElemChildren {
     /// Appends the plain text to `text`.
     ///
-    /// Fails where memory is refused. What `text` holds then is not told.
+    /// Fails where memory is refused. What `text` holds then is not specified.
     pub fn write_plain(&self, text: &mut String) -> Result<(), AllocError>
         ensures { OnOk result (string_bytes text.new ≡ string_bytes text.old ++ plain self.now) }
     {
@@ -42,7 +42,7 @@ impl fmt::Display for ElemChild {
 impl ElemChild {
     /// Appends the plain text of this child and those inside it to `text`.
     ///
-    /// Fails where memory is refused. What `text` holds then is not told.
+    /// Fails where memory is refused. What `text` holds then is not specified.
     pub fn write_plain(&self, text: &mut String) -> Result<(), AllocError>
         ensures { OnOk result (string_bytes text.new
             ≡ string_bytes text.old ++ child_plain (child_view self.now)) }

@@ -5,35 +5,34 @@ ghost use Rattle.csl_values.specs.Found.{first_value};
 use crate::taxonomy::{DateVariable, NameVariable, NumberVariable, StandardVariable};
 use csl_lists::seq::Seq;
 use csl_lists::text::Text;
-use std::hash::Hash;
 
 /// A person, or an institution with a family name alone.
-#[derive(Clone, PartialEq, Eq, Hash, Drop)]
+#[derive(Clone, PartialEq, Eq, PartialOrd, Ord, Hash, Drop)]
 pub struct Person {
     /// The family name.
     pub name: Text,
     pub given_name: Option<Text>,
 }
 
-/// A date, of which the year alone is known. Year 0 is 1 BC.
-#[derive(Clone, Copy, PartialEq, Eq, Hash)]
+/// A date whose year alone is known. Year 0 is 1 BC.
+#[derive(Clone, Copy, PartialEq, Eq, PartialOrd, Ord, Hash)]
 pub struct Date {
     pub year: i32,
 }
 
 /// A text in pieces.
-#[derive(Clone, PartialEq, Eq, Hash, Drop)]
+#[derive(Clone, PartialEq, Eq, PartialOrd, Ord, Hash, Drop)]
 pub struct ChunkedString(pub Seq<Chunk>);
 
 /// A piece of a text.
-#[derive(Clone, PartialEq, Eq, Hash, Drop)]
+#[derive(Clone, PartialEq, Eq, PartialOrd, Ord, Hash, Drop)]
 pub struct Chunk {
     pub value: Text,
     pub kind: ChunkKind,
 }
 
 /// How a piece of a text is treated.
-#[derive(Clone, Copy, PartialEq, Eq, Hash)]
+#[derive(Clone, Copy, PartialEq, Eq, PartialOrd, Ord, Hash)]
 pub enum ChunkKind {
     Normal,
     /// Written as it stands.
@@ -43,7 +42,7 @@ pub enum ChunkKind {
 }
 
 /// What can be cited. Equal entries answer every call equally.
-pub trait EntryLike: Eq + Hash {
+pub trait EntryLike: Ord {
     ghost use Rattle.std.specs.Prelude.{◌≡◌, true, option_map};
     ghost use Rattle.csl_values.specs.Answers.{Answers};
 
@@ -91,7 +90,7 @@ fn first_value<'a, K: PartialEq, V>(pairs: &'a [(K, V)], variable: &K) -> Option
 }
 
 /// An entry as a value. Of several pairs of one variable the first answers.
-#[derive(PartialEq, Eq, Hash, Drop)]
+#[derive(PartialEq, Eq, PartialOrd, Ord, Hash, Drop)]
 pub struct PlainEntry {
     pub key: Text,
     /// The citation label, as `Che+21`.

@@ -1,4 +1,5 @@
-//! Laws of equality: `==` of variables, formattings, name forms and entries tells equal values.
+//! Laws of equality: `==` of variables, formattings, name forms and entries decides whether values
+//! are equal.
 ghost use Rattle.std.specs.Prelude.{◌≡◌};
 ghost use Rattle.csl_values.specs.Tells.{TellsEqual};
 

@@ -1,4 +1,4 @@
-//! How far the names of a cite are written, to tell cites apart (CSL 1.0.2, disambiguation).
+//! How far the names of a cite are written, to disambiguate cites (CSL 1.0.2, disambiguation).
 ghost use Rattle.std.specs.Prelude.{◌≡◌, option_map, slice_get};
 ghost use Rattle.std.specs.Borrow.{sem};
 ghost use Rattle.csl_values.specs.Forms.{form_written, add_name, LendsForm};
@@ -15,7 +15,7 @@ use csl_lists::seq::Seq;
 /// How far a name is written, from the least on.
 #[derive(Clone, Copy, PartialEq, Eq, PartialOrd, Ord, Hash)]
 pub enum DisambiguatedNameForm {
-    /// Not written: it stands behind `et al.`.
+    /// Not written: `et al.` stands for it.
     Count,
     /// The family name.
     Short,

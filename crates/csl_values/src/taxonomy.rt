@@ -10,7 +10,7 @@ pub enum Variable {
 }
 
 /// A variable that holds persons.
-#[derive(Clone, Copy, PartialEq, Eq, Hash)]
+#[derive(Clone, Copy, PartialEq, Eq, PartialOrd, Ord, Hash)]
 pub enum NameVariable {
     Author,
     Editor,
@@ -18,7 +18,7 @@ pub enum NameVariable {
 }
 
 /// A variable that holds a date.
-#[derive(Clone, Copy, PartialEq, Eq, Hash)]
+#[derive(Clone, Copy, PartialEq, Eq, PartialOrd, Ord, Hash)]
 pub enum DateVariable {
     Issued,
     Accessed,
@@ -30,7 +30,7 @@ pub enum DateVariable {
 
 /// A variable that holds a text. An entry never holds the last two: the label is handed in on its
 /// own, and the year suffix is found by disambiguation.
-#[derive(Clone, Copy, PartialEq, Eq, Hash)]
+#[derive(Clone, Copy, PartialEq, Eq, PartialOrd, Ord, Hash)]
 pub enum StandardVariable {
     Title,
     ContainerTitle,
@@ -45,7 +45,7 @@ pub enum StandardVariable {
 
 /// A variable that holds a number. The first three belong to the cite at hand, the others to its
 /// entry.
-#[derive(Clone, Copy, PartialEq, Eq, Hash)]
+#[derive(Clone, Copy, PartialEq, Eq, PartialOrd, Ord, Hash)]
 pub enum NumberVariable {
     CitationNumber,
     Locator,
@@ -57,7 +57,7 @@ pub enum NumberVariable {
 }
 
 /// What a locator counts (CSL 1.0.2, appendix IV, locators).
-#[derive(Clone, Copy, PartialEq, Eq, Hash)]
+#[derive(Clone, Copy, PartialEq, Eq, PartialOrd, Ord, Hash)]
 pub enum Locator {
     Book,
     Chapter,

@@ -34,7 +34,7 @@ pub trait CiteWriter<T: EntryLike, P> {
     ghost use Rattle.csl_writers.specs.Tasks.{cite_task, date_task, item_task};
     ghost use Rattle.csl_writers.specs.TaskView.{cite_task_view, date_task_view, item_task_view};
 
-    /// Why it may write nothing; a want of memory among others.
+    /// Why it may write nothing; lack of memory among others.
     type Error: From<AllocError> + Drop;
 
     /// What it notes where it is asked for something.

@@ -314,7 +314,7 @@ fn close_node(
     }
 }
 
-// Writes one piece. Tells whether it ends a part of the innermost node.
+// Writes one piece. Returns whether it ends a part of the innermost node.
 #[tactic(auto, unfolding(crate::specs::PieceRun::after_token))]
 fn write_piece<'a>(
     style: &StyleLocales<'_>,
@@ -345,7 +345,7 @@ fn write_piece<'a>(
     }
 }
 
-// Writes the pieces one behind the other. Tells whether they end a part of the innermost node.
+// Writes the pieces one after the other. Returns whether they end a part of the innermost node.
 fn write_all<'a>(
     style: &StyleLocales<'_>,
     writing: &mut WritingContext<'_>,

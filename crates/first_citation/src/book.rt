@@ -5,8 +5,8 @@ use csl_driver::taxonomy::{DateVariable, NameVariable, NumberVariable, StandardV
 use csl_driver::text::Text;
 use std::alloc::{AllocError, Global};
 
-/// A book, of which authors and year are known.
-#[derive(PartialEq, Eq, Hash, Drop)]
+/// A book whose authors and year are known.
+#[derive(PartialEq, Eq, PartialOrd, Ord, Hash, Drop)]
 pub struct Book {
     key: Text,
     authors: Seq<Person>,

@@ -6,16 +6,18 @@ use crate::files::{bytes_of, bytes_refused};
 use crate::items::show_item_warnings;
 use crate::json_causes::behind_mark;
 use crate::references::references_in;
-use crate::reports::{limit_exceeded, refused, show_style_warnings, show_warning, style_refused};
+use crate::reports::{limit_exceeded, refused, show_style_warnings, show_warning};
 use cite_command::one_line::OneLine;
 use cite_host::error::AnswerError;
 use cite_host::limits::check_style;
 use cite_limits::budget::USUAL_PART;
+use fault_lines::faults::line_faults;
 use serde_json::Value;
 use std::alloc::Global;
 use std::io;
 use std::process::ExitCode;
 use std::rt::Files;
+use style_faults::error::StyleError;
 use style_file::style::StyleFile;
 use style_reader::file::{CslFile, read_file};
 
@@ -137,7 +139,8 @@ fn check_csl_text(
             check_limits(rt.alloc(), path, text, &file)?;
             Ok(show_file(rt, path, &file)?)
         }
-        Err(error) => Err(style_refused(rt.alloc(), path, &error)?),
+        Err(StyleError::OutOfMemory) => Err(CommandError::OutOfMemory),
+        Err(_) => Err(CommandError::Faults(line_faults(rt.alloc(), path, text)?)),
     }
 }
 

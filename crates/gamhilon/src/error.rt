@@ -3,6 +3,7 @@ use crate::document_error::DocumentError;
 use cite_command::error::{CommandLineError, UsageError};
 use cite_command::one_line::OneLine;
 use cite_host::error::AnswerError;
+use fault_lines::faults::LineFault;
 use packaged_styles::styles::NAMES;
 use std::alloc::{AllocError, AllocFailed};
 use std::{fmt, io};
@@ -26,6 +27,8 @@ pub(crate) enum CommandError {
         place: Option<Place>,
         why: String,
     },
+    /// A style file or a locale file is wrong.
+    Faults(Vec<LineFault>),
     /// A style takes more steps, or writes more, than it may, at a place of its file if that is
     /// known.
     LimitExceeded {
@@ -54,7 +57,9 @@ impl CommandError {
     pub fn status(&self) -> u8 {
         match self {
             CommandError::Unreadable { .. } | CommandError::Output => 1,
-            CommandError::Refused { .. } | CommandError::UnknownIds { .. } => 2,
+            CommandError::Refused { .. }
+            | CommandError::Faults(_)
+            | CommandError::UnknownIds { .. } => 2,
             CommandError::LimitExceeded { .. } => LIMIT_EXCEEDED,
             CommandError::Answer(error) => answer_status(error),
             CommandError::Document { why, .. } => why.status(),
@@ -106,9 +111,7 @@ impl From<io::Error> for CommandError {
 impl fmt::Display for CommandError {
     fn fmt<W: fmt::Write>(&self, f: &mut fmt::Formatter<W>) -> fmt::Result {
         match self {
-            CommandError::Usage(error) => {
-                write!(f, "gamhilon: {error}; gamhilon --help tells more")
-            }
+            CommandError::Usage(error) => { write!(f, "gamhilon: {error}; see gamhilon --help") }
             CommandError::UnknownStyle(name) => {
                 let name = OneLine(name.as_str());
                 write!(f, "gamhilon: there is no style `{name}`: the styles are ")?;
@@ -129,6 +132,7 @@ impl fmt::Display for CommandError {
                 }
                 write!(f, " error: {why}")
             }
+            CommandError::Faults(faults) => write_faults(f, faults),
             CommandError::UnknownIds { path, lines } => write_lines(f, path.as_str(), lines),
             CommandError::Answer(error) => write!(f, "gamhilon: {error}"),
             CommandError::Document { path, why } => {
@@ -139,6 +143,16 @@ impl fmt::Display for CommandError {
             CommandError::OutOfMemory => f.write_str("gamhilon: out of memory"),
         }
     }
+}
+
+/// Writes faults, one below the other.
+fn write_faults<W: fmt::Write>(f: &mut fmt::Formatter<W>, faults: &[LineFault]) -> fmt::Result {
+    let mut before = "";
+    for fault in faults {
+        write!(f, "{before}{fault}")?;
+        before = "\n";
+    }
+    Ok(())
 }
 
 /// Writes an error for each line on a file.

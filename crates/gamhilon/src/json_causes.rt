@@ -1,7 +1,7 @@
 //! Why a file is no JSON though it may look like it.
 use crate::error::CommandError;
-use crate::json_syntax::TextPlace;
 use crate::reports::{refused, refused_at};
+use json_syntax::syntax::TextPlace;
 use serde_json::Value;
 use std::alloc::{AllocError, Global};
 use std::fmt;

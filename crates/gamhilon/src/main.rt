@@ -13,7 +13,6 @@ mod error;
 mod files;
 mod items;
 mod json_causes;
-mod json_syntax;
 mod linking;
 mod locales;
 mod near_styles;

@@ -8,7 +8,6 @@ use cite_command::arguments::Options;
 use csl_json::fault::ReferencesError;
 use csl_json::reading::{ReadReferences, read_references};
 use csl_references::reference::References;
-use indexmap::IndexMap;
 use std::alloc::Global;
 use std::rt::Files;
 
@@ -26,7 +25,7 @@ pub(crate) fn references_of(
     rt: &(impl Files + Input + Eprint + AllocGlobal),
     options: &Options,
 ) -> Result<References, CommandError> {
-    let mut references = IndexMap::new(rt.alloc());
+    let mut references = References::new(rt.alloc());
     for path in &options.references {
         let bytes = bytes_of(rt, path.as_str())?;
         let read = references_in(rt.alloc(), path.as_str(), &bytes)?;
@@ -63,13 +62,13 @@ fn add_all(
     references: &mut References,
     others: References,
 ) -> Result<(), CommandError> {
-    for (id, reference) in others {
-        if references.contains_key(&id) {
-            let id = id.as_str();
+    for reference in others.into_vec() {
+        let id = reference.id.as_str();
+        if references.contains(id) {
             let warning = format!(in rt.alloc(); "`{id}` replaces the item of a file before")?;
             show_warning(rt, path, &warning)?;
         }
-        references.insert(id, reference)?;
+        references.insert(reference)?;
     }
     Ok(())
 }

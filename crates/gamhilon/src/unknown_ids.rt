@@ -23,8 +23,8 @@ pub(crate) fn check_ids(
     let mut lines = Vec::new(alloc);
     for (number, citation) in citations.iter().enumerate() {
         for (place, cite) in citation.cites.iter().enumerate() {
-            if !references.contains_key(&cite.id) {
-                let id = cite.id.as_str();
+            let id = cite.id.as_str();
+            if !references.contains(id) {
                 let guess = guess_of(alloc, references, id, guesses)?;
                 guesses = guesses.saturating_sub(1);
                 let guess = guess.as_str();
@@ -66,8 +66,8 @@ fn nearest_id<'r>(
     id: &str,
 ) -> Result<Option<&'r str>, AllocError> {
     let mut nearest = Nearest::new(alloc, id);
-    for other in references.keys() {
-        let other = other.as_str();
+    for reference in references.as_slice() {
+        let other = reference.id.as_str();
         if other.eq_ignore_ascii_case(id) {
             return Ok(Some(other));
         }

@@ -86,7 +86,7 @@ fn text_of_rounds<'e>(
     Ok(driven_text(alloc, driven)?)
 }
 
-/// The same where works are told apart as CSL 1.0.2 has it.
+/// The same where works are disambiguated as CSL 1.0.2 has it.
 fn text_of_csl<'e>(
     alloc: Global,
     driver: &Driver<'e>,

@@ -67,7 +67,7 @@ pub fn drive_by<'a, T: EntryLike, P: Eq + Drop>(
 }
 
 /// Answers all requests of a driver with what a host has written, as `drive_by` does, with works
-/// told apart as CSL 1.0.2 has it. What is compared again is that of names, and then that of the
+/// disambiguated as CSL 1.0.2 has it. What is compared again is that of names, and then that of the
 /// condition `disambiguate`.
 ///
 /// Called again and again with what was missing, it answers at the fifth call at the latest. That

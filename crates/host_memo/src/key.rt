@@ -30,7 +30,7 @@ use std::alloc::{AllocError, Global};
 /// Cites that are rendered to be compared have no place, and items of the bibliography have none; a
 /// cite or a date that is written for the last time has the index of its request and its own in the
 /// items of that request, both from 0.
-#[derive(PartialEq, Eq, Hash, Drop)]
+#[derive(PartialEq, Eq, PartialOrd, Ord, Hash, Drop)]
 pub struct TaskKey {
     pub style: Text,
     pub locale: Text,
@@ -40,7 +40,7 @@ pub struct TaskKey {
 }
 
 /// What of the entry is asked for.
-#[derive(PartialEq, Eq, Hash, Drop)]
+#[derive(PartialEq, Eq, PartialOrd, Ord, Hash, Drop)]
 pub enum TaskPart {
     /// A cite, for its purpose and as its verdict cuts it.
     Cite(Standing, Option<CitePurpose>, Option<CollapseVerdict>),
@@ -51,7 +51,7 @@ pub enum TaskPart {
 }
 
 /// What is known of a cite.
-#[derive(PartialEq, Eq, Hash, Drop)]
+#[derive(PartialEq, Eq, PartialOrd, Ord, Hash, Drop)]
 pub struct Standing {
     /// The number of the note in which it stands.
     pub note_number: Option<usize>,

@@ -10,7 +10,7 @@ pub trait Source {
     ghost use Rattle.host_memo.specs.declared.key.TaskKey.{TaskKey};
     ghost use Rattle.csl_writers.specs.declared.cite.Cite.{Cite};
 
-    /// Why it may write nothing; a want of memory among others.
+    /// Why it may write nothing; lack of memory among others.
     type Error: From<AllocError> + Drop;
 
     /// It may write this of the task, or has written it; anything, where a source says nothing.

@@ -84,7 +84,7 @@ fn vertical_member(align: VerticalAlign) -> &'static str
     }
 }
 
-/// Appends the members of a formatting; of those that are usual only slant and weight are told.
+/// Appends the members of a formatting; of those that are usual it writes only slant and weight.
 #[tactic(auto, unfolding(crate::specs::Pieces::formatting_text))]
 fn write_formatting(out: &mut String, format: Formatting) -> Result<(), AllocError>
     ensures { OnOk result (string_bytes out.new ≡ string_bytes out.old ++ formatting_text format) }

@@ -11,17 +11,17 @@ use crate::found::FoundStyle;
 use csl_base::entry::PlainEntry;
 use json_styles::styles::NamedStyle;
 use std::alloc::{AllocError, Global};
-use std::collections::HashMap;
+use std::collections::BTreeMap;
 
 /// Indexes by names.
-pub type Indexes<'e> = HashMap<&'e str, usize>;
+pub type Indexes<'e> = BTreeMap<&'e str, usize>;
 
 /// The indexes of styles by their names. A name finds the first style that has it.
 pub fn style_indexes<'e>(alloc: Global, styles: &'e [NamedStyle]) -> Result<Indexes<'e>, AllocError>
     ensures { IfOk result (λ m. (name : List ℕ) → found_by m (unnamed styles.now) name
         ≡ option_map Some (style_named (named_styles_view styles.now) name)) }
 {
-    let mut by_name = HashMap::new(alloc);
+    let mut by_name = BTreeMap::new(alloc);
     for (index, named) in styles.iter().enumerate() {
         let name = named.name.as_str();
         if !by_name.contains_key(&name) {
@@ -39,7 +39,7 @@ pub fn entry_indexes<'e>(
     ensures { IfOk result (λ m. (key : List ℕ) → found_by m entries.now key
         ≡ option_map Some (entry_named entries.now key)) }
 {
-    let mut by_key = HashMap::new(alloc);
+    let mut by_key = BTreeMap::new(alloc);
     for (index, entry) in entries.iter().enumerate() {
         let key = entry.key.as_str();
         if !by_key.contains_key(&key) {

@@ -36,7 +36,7 @@ fn person_of(alloc: Global, value: &Value) -> Result<Person, ReadError>
 /// The persons that the items of a list are.
 ///
 /// # Errors
-/// The fault of the first item that is no person, as one of the list; a want of memory.
+/// The fault of the first item that is no person, as one of the list; lack of memory.
 #[tactic(auto, using(json_values::proofs::Ways::item_there))]
 pub fn all_persons(alloc: Global, items: &[Value]) -> Result<Vec<Person>, ReadError>
     ensures read { Reads (λ v. v.items) result (all_items person_form (items_view items.now)) }

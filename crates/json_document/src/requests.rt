@@ -106,7 +106,7 @@ fn known_entry(alloc: Global, entries: &Indexes<'_>, value: &Value) -> Result<us
     let Some(key) = value.as_str() else {
         return Err(unlike(alloc, value, fault::Wanted::Entry));
     };
-    match entries.get(&key) {
+    match entries.get(key) {
         Some(index) => Ok(*index),
         None => Err(unlike(alloc, value, fault::Wanted::Entry)),
     }
@@ -129,7 +129,7 @@ fn required_entry(alloc: Global, entries: &Indexes<'_>, value: &Value) -> Result
 /// What the first item of a locator says it counts.
 ///
 /// # Errors
-/// The fault of an item that names no locator, as one of the list; a want of memory.
+/// The fault of an item that names no locator, as one of the list; lack of memory.
 #[tactic(auto, using(json_values::proofs::Ways::fails_outside))]
 pub fn locator_kind(alloc: Global, item: &Value) -> Result<Locator, ReadError>
     ensures read { Reads (λ k. k) result (one_of locators (view item.now)) }
@@ -176,7 +176,8 @@ fn optional_locator(alloc: Global, value: &Value) -> Result<Option<AskedLocator>
     }
 }
 
-/// Where a caller's own words stand, which is said only where works are told apart as CSL has it.
+/// Where a caller's own words stand, which is said only where works are disambiguated as CSL has
+/// it.
 fn apart_of(alloc: Global, rounds: Rounds, value: &Value) -> Result<Apart, ReadError>
     ensures read { Reads (λ a. a) result (apart_form rounds (view value.now)) }
     ensures fault { Faults result (view value.now) }
@@ -293,7 +294,7 @@ fn required_style(alloc: Global, styles: &Indexes<'_>, value: &Value) -> Result<
     ensures fault { Faults result (view value.now) }
 {
     let name = required_text(alloc, value, "style")?;
-    match styles.get(&name) {
+    match styles.get(name) {
         Some(index) => Ok(*index),
         None => Err(unknown_style(alloc, value)),
     }

@@ -1,4 +1,4 @@
-//! How a document has works told apart.
+//! How a document has works disambiguated.
 ghost use Rattle.serde_json.specs.View.{view};
 ghost use Rattle.json_document.specs.Rounds.{rounds_form};
 ghost use Rattle.json_values.specs.Reads.{Faults, Reads};
@@ -9,7 +9,7 @@ use json_values::words::name_or;
 use serde_json::Value;
 use std::alloc::Global;
 
-/// How works that read alike are told apart.
+/// How works that read alike are disambiguated.
 #[derive(Clone, Copy)]
 pub enum Rounds {
     /// In so many rounds.

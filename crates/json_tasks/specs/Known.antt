@@ -1,7 +1,7 @@
 -- What a task may name: the styles and the entries of its document.
 use Rattle.std.specs.Prelude.{ℕ, Bool, List, Option, Some, None, is_some, option_map, ◌&&◌, if◌then◌else◌}
 use Rattle.std.specs.Borrow.{Bor}
-use Rattle.std.specs.HashMap.{HashMap}
+use Rattle.std.specs.BTreeMap.{BTreeMap}
 use Rattle.serde_json.specs.Data.{Data}
 use Rattle.csl_style_values.specs.Style.{StyleValue}
 use Rattle.csl_style_values.specs.StyleView.{style_view}
@@ -24,12 +24,12 @@ task_among known d = do
   if known key then Some key else None
 
 -- the style that a map has at a name
-abbrev pub known_style_in : {S : Type 0} → HashMap (Bor (List ℕ)) (Bor NamedStyle) S → List ℕ
+abbrev pub known_style_in : BTreeMap (Bor (List ℕ)) (Bor NamedStyle) → List ℕ
     → Option StyleValue
 known_style_in m name = option_map (λ s. style_view s.now.style) (text_in m name)
 
 -- the entry that a map has at a key
-abbrev pub known_entry_in : {S : Type 0} → HashMap (Bor (List ℕ)) (Bor PlainEntry) S → List ℕ
+abbrev pub known_entry_in : BTreeMap (Bor (List ℕ)) (Bor PlainEntry) → List ℕ
     → Option PlainEntry
 known_entry_in m key = option_map (λ e. e.now) (text_in m key)
 

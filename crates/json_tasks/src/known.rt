@@ -8,10 +8,10 @@ ghost use Rattle.json_tasks.specs.Known.{known_entry_in, known_style_in};
 use csl_base::entry::PlainEntry;
 use json_styles::styles::NamedStyle;
 use std::alloc::{AllocError, Global};
-use std::collections::HashMap;
+use std::collections::BTreeMap;
 
 /// Styles by their names.
-type StylesByName<'d> = HashMap<&'d str, &'d NamedStyle>;
+type StylesByName<'d> = BTreeMap<&'d str, &'d NamedStyle>;
 
 /// The styles by their names. A name finds the first style that has it.
 fn styles_by_name<'d>(
@@ -20,7 +20,7 @@ fn styles_by_name<'d>(
 ) -> Result<StylesByName<'d>, AllocError>
     ensures { IfOk result (λ m. known_style_in m ≡ style_named (named_styles_view styles.now)) }
 {
-    let mut by_name = HashMap::new(alloc);
+    let mut by_name = BTreeMap::new(alloc);
     for named in styles {
         let name = named.name.as_str();
         if !by_name.contains_key(&name) {
@@ -31,7 +31,7 @@ fn styles_by_name<'d>(
 }
 
 /// Entries by their keys.
-type EntriesByKey<'d> = HashMap<&'d str, &'d PlainEntry>;
+type EntriesByKey<'d> = BTreeMap<&'d str, &'d PlainEntry>;
 
 /// The entries by their keys. A key finds the first entry that has it.
 fn entries_by_key<'d>(
@@ -40,7 +40,7 @@ fn entries_by_key<'d>(
 ) -> Result<EntriesByKey<'d>, AllocError>
     ensures { IfOk result (λ m. known_entry_in m ≡ entry_named entries.now) }
 {
-    let mut by_key = HashMap::new(alloc);
+    let mut by_key = BTreeMap::new(alloc);
     for entry in entries {
         let key = entry.key.as_str();
         if !by_key.contains_key(&key) {
@@ -83,13 +83,13 @@ impl<'d> Known<'d> {
     pub(crate) fn has_style(&self, name: &str) -> bool
         ensures { result ≡ is_some (known_style_in self.now.styles name.now) }
     {
-        self.styles.contains_key(&name)
+        self.styles.contains_key(name)
     }
 
     /// Whether there is an entry of this key.
     pub(crate) fn has_entry(&self, key: &str) -> bool
         ensures { result ≡ is_some (known_entry_in self.now.entries key.now) }
     {
-        self.entries.contains_key(&key)
+        self.entries.contains_key(key)
     }
 }

@@ -212,7 +212,7 @@ fn table_of_items(alloc: Global, known: &Known<'_>, items: &[Value]) -> Result<T
 /// # Errors
 ///
 /// Where the value is of another form, a task names a style or an entry that isn't among these, or
-/// a task stands twice in it with two different trees, each of which is refused by its place; and
+/// a task stands twice in it with two different trees; each of these is refused by its place. Also
 /// where memory is refused.
 pub fn table_of(
     alloc: Global,

@@ -65,7 +65,7 @@ pub enum Wanted {
     Entry,
     /// The key that is missing.
     MissingKey,
-    /// This key only where works are told apart as CSL 1.0.2 has it.
+    /// This key only where works are disambiguated as CSL 1.0.2 has it.
     KeyOfCsl,
     /// One of these keys.
     KeyOf(String),

@@ -49,7 +49,7 @@ pub fn variable_named(name: &str) -> Option<Variable>
     named(NUMBER_VARIABLES, name).map(Variable::Number)
 }
 
-/// The term of the locator that stands behind `locator-`.
+/// The term of the locator that follows `locator-`.
 fn locator_term_named(name: &str) -> Option<Term>
     ensures { result ≡ locator_term_named name.now }
 {

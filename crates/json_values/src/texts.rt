@@ -16,7 +16,7 @@ use std::alloc::Global;
 /// A copy of the text that the value is.
 ///
 /// # Errors
-/// The fault of a value that is no text; a want of memory.
+/// The fault of a value that is no text; lack of memory.
 pub fn held_text(alloc: Global, value: &Value) -> Result<Text, ReadError>
     ensures read { Reads (λ t. t) result (as_str (view value.now)) }
     ensures fault { Faults result (view value.now) }
@@ -30,7 +30,7 @@ pub fn held_text(alloc: Global, value: &Value) -> Result<Text, ReadError>
 /// A copy of the text that the item at this place is.
 ///
 /// # Errors
-/// The fault of an item that is no text, as one of the list; a want of memory.
+/// The fault of an item that is no text, as one of the list; lack of memory.
 #[tactic(auto, using(crate::proofs::Ways::fails_outside))]
 pub fn item_text(alloc: Global, item: &Value, place: usize) -> Result<Text, ReadError>
     ensures read { Reads (λ t. t) result (as_str (view item.now)) }
@@ -42,7 +42,7 @@ pub fn item_text(alloc: Global, item: &Value, place: usize) -> Result<Text, Read
 /// A copy of the text of the key, which has to be there.
 ///
 /// # Errors
-/// The fault of an object that lacks the key, or of a member that is no text; a want of memory.
+/// The fault of an object that lacks the key, or of a member that is no text; lack of memory.
 #[tactic(auto, using(crate::proofs::Ways::fails_outside))]
 pub fn held_text_at(alloc: Global, object: &Value, key: &str) -> Result<Text, ReadError>
     ensures read { Reads (λ t. t) result (required as_str key.now (view object.now)) }
@@ -57,7 +57,7 @@ pub fn held_text_at(alloc: Global, object: &Value, key: &str) -> Result<Text, Re
 /// A copy of the text of the key, if the key is there.
 ///
 /// # Errors
-/// The fault of a member that is no text, as one of the object; a want of memory.
+/// The fault of a member that is no text, as one of the object; lack of memory.
 #[tactic(auto, using(crate::proofs::Ways::fails_outside))]
 pub fn optional_held_text(
     alloc: Global,

@@ -1,5 +1,5 @@
-//! Macros that call each other: an order in which each stands behind those that it calls, and how
-//! large they are with all calls written out.
+//! Macros that call each other: an order in which each follows those that it calls, and how large
+//! they are with all calls written out.
 #![tactic(auto)]
 
 pub mod order;

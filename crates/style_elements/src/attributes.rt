@@ -30,7 +30,7 @@ pub fn needed<'e>(
     }
 }
 
-/// The only attribute of these names, of which one has to be there.
+/// The only attribute of these names. There has to be one.
 pub fn only<'e>(
     alloc: Global,
     element: &'e Element,

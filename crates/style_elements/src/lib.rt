@@ -2,7 +2,7 @@
 //! variables, types and terms, and calls of macros.
 //!
 //! What is wrong is refused with its place; an attribute, a variable, a term or a type that CSL
-//! 1.0.2 lacks is noted and read over.
+//! 1.0.2 lacks is noted and ignored.
 #![tactic(auto)]
 
 pub mod attributes;

@@ -1,11 +1,11 @@
 //! The macros of a style, and the calls of them.
-use crate::attributes::{attribute, needed};
+use crate::attributes::attribute;
 use crate::children::csl_name;
 use crate::limits::check_limits;
 use macro_order::order::{CallOrder, RingCall, call_order};
 use macro_order::outline::{Call, Outline, Size, sizes_of};
 use std::alloc::{AllocError, Global};
-use std::collections::HashMap;
+use std::collections::BTreeMap;
 use style_faults::fault::Wanted;
 use style_faults::nearest::Nearest;
 use style_faults::stop::Stop;
@@ -32,8 +32,26 @@ impl<'t> MacroTable<'t> {
         }
     }
 
-    /// The macros of a style. Refused are two macros of one name, calls of macros that aren't
-    /// there, rings of calls, and macros that are too large when they are written out.
+    /// The macros of a style in the order of the file, of which no size is known: for styles with
+    /// which something is wrong.
+    pub fn unordered(alloc: Global, style: &'t Element) -> Result<MacroTable<'t>, AllocError> {
+        let mut names = MacroNames::new(alloc);
+        let mut indices = Vec::new(alloc);
+        for (place, element) in macro_elements(alloc, style)?.iter().enumerate() {
+            if let Some(name) = attribute(element, "name") {
+                names.add(name.value.as_str())?;
+                indices.push(MacroIndex(place))?;
+            }
+        }
+        Ok(MacroTable {
+            names,
+            indices,
+            sizes: Vec::new(alloc),
+        })
+    }
+
+    /// The macros of a style. Refused are two macros of one name, rings of calls, and macros that
+    /// are too large when they are written out. Calls of macros that aren't there are left out.
     pub fn of_style(alloc: Global, style: &'t Element) -> Result<MacroTable<'t>, Stop> {
         let elements = macro_elements(alloc, style)?;
         let names = MacroNames::of_macros(alloc, &elements)?;
@@ -43,7 +61,7 @@ impl<'t> MacroTable<'t> {
         }
         let order = match call_order(alloc, &outlines)? {
             CallOrder::Order(order) => order,
-            CallOrder::Ring(ring) => return Err(ring_stop(alloc, &elements, &ring)),
+            CallOrder::Ring(ring) => return Err(ring_stop(alloc, &elements, &names, &ring)),
         };
         let sizes = sizes_of(alloc, &outlines, &order)?;
         for number in &order {
@@ -60,8 +78,11 @@ impl<'t> MacroTable<'t> {
 
     /// The macro that an attribute names.
     pub fn index_of(&self, alloc: Global, attribute: &Attribute) -> Result<MacroIndex, Stop> {
-        let number = self.names.number_of(alloc, attribute)?;
-        match self.indices.get(number) {
+        let index = self
+            .names
+            .number_of(attribute)
+            .and_then(|number| self.indices.get(number));
+        match index {
             Some(index) => Ok(*index),
             None => Err(self.names.missing(alloc, attribute)),
         }
@@ -79,38 +100,41 @@ impl<'t> MacroTable<'t> {
 struct MacroNames<'t> {
     /// In the order of the file.
     names: Vec<&'t str>,
-    numbers: HashMap<&'t str, usize>,
+    numbers: BTreeMap<&'t str, usize>,
 }
 
 impl<'t> MacroNames<'t> {
     fn new(alloc: Global) -> MacroNames<'t> {
         MacroNames {
             names: Vec::new(alloc),
-            numbers: HashMap::new(alloc),
+            numbers: BTreeMap::new(alloc),
         }
     }
 
-    /// The names of these macros, of which no two may have one.
+    /// The names of these macros. No two macros may have the same name.
     fn of_macros(alloc: Global, elements: &[&'t Element]) -> Result<MacroNames<'t>, Stop> {
         let mut all = MacroNames::new(alloc);
         for element in elements {
-            let attribute = needed(alloc, element, "name")?;
-            let name = attribute.value.as_str();
-            let number = all.names.len();
-            if all.numbers.insert(name, number)?.is_some() {
-                return Err(Stop::at(alloc, attribute.offset, name, Wanted::NewMacro));
+            if let Some(attribute) = attribute(element, "name") {
+                let name = attribute.value.as_str();
+                if !all.add(name)? {
+                    return Err(Stop::at(alloc, attribute.offset, name, Wanted::NewMacro));
+                }
             }
-            all.names.push(name)?;
         }
         Ok(all)
     }
 
-    /// The number of the macro that an attribute names.
-    fn number_of(&self, alloc: Global, attribute: &Attribute) -> Result<usize, Stop> {
-        match self.numbers.get(&attribute.value.as_str()) {
-            Some(number) => Ok(*number),
-            None => Err(self.missing(alloc, attribute)),
-        }
+    /// Adds a name; returns whether it is a new one.
+    fn add(&mut self, name: &'t str) -> Result<bool, AllocError> {
+        let number = self.names.len();
+        self.names.push(name)?;
+        Ok(self.numbers.insert(name, number)?.is_none())
+    }
+
+    /// The number of the macro that an attribute names, if there is one.
+    fn number_of(&self, attribute: &Attribute) -> Option<usize> {
+        self.numbers.get(attribute.value.as_str()).copied()
     }
 
     /// The macro that an attribute names is missing.
@@ -135,11 +159,11 @@ impl<'t> MacroNames<'t> {
     }
 }
 
-/// The macros in a style, in the order of the file.
+/// The macros in a style that have names, in the order of the file.
 fn macro_elements<'t>(alloc: Global, style: &'t Element) -> Result<Vec<&'t Element>, AllocError> {
     let mut elements = Vec::new(alloc);
     for child in style.children() {
-        if csl_name(child) == "macro" {
+        if csl_name(child) == "macro" && attribute(child, "name").is_some() {
             elements.push(child)?;
         }
     }
@@ -147,7 +171,11 @@ fn macro_elements<'t>(alloc: Global, style: &'t Element) -> Result<Vec<&'t Eleme
 }
 
 /// The size of an element's content, and its calls.
-fn outline_of(alloc: Global, element: &Element, names: &MacroNames<'_>) -> Result<Outline, Stop> {
+fn outline_of(
+    alloc: Global,
+    element: &Element,
+    names: &MacroNames<'_>,
+) -> Result<Outline, AllocError> {
     let mut outline = Outline {
         size: Size {
             elements: 0,
@@ -155,7 +183,7 @@ fn outline_of(alloc: Global, element: &Element, names: &MacroNames<'_>) -> Resul
         },
         calls: Vec::new(alloc),
     };
-    add_content(element, 1, &mut outline, names, alloc)?;
+    add_content(element, 1, &mut outline, names)?;
     Ok(outline)
 }
 
@@ -165,17 +193,15 @@ fn add_content(
     depth: usize,
     outline: &mut Outline,
     names: &MacroNames<'_>,
-    alloc: Global,
-) -> Result<(), Stop> {
+) -> Result<(), AllocError> {
     for part in &element.content {
         if let Content::Element(child) = part {
             outline.size.elements = outline.size.elements.saturating_add(1);
             outline.size.depth = outline.size.depth.max(depth);
-            if let Some(attribute) = call_in(child) {
-                let callee = names.number_of(alloc, attribute)?;
+            if let Some(callee) = call_in(child).and_then(|call| names.number_of(call)) {
                 outline.calls.push(Call { callee, depth })?;
             }
-            add_content(child, depth.saturating_add(1), outline, names, alloc)?;
+            add_content(child, depth.saturating_add(1), outline, names)?;
         }
     }
     Ok(())
@@ -216,11 +242,16 @@ fn check_size(alloc: Global, element: &Element, size: Size) -> Result<(), Stop> 
 }
 
 /// Macros call each other in a ring, with this call.
-fn ring_stop(alloc: Global, elements: &[&Element], ring: &RingCall) -> Stop {
+fn ring_stop(
+    alloc: Global,
+    elements: &[&Element],
+    names: &MacroNames<'_>,
+    ring: &RingCall,
+) -> Stop {
     let mut left = ring.call;
     let call = elements
         .get(ring.caller)
-        .and_then(|element| nth_call(element, &mut left));
+        .and_then(|element| nth_call(element, names, &mut left));
     match call {
         Some(attribute) => Stop::at(
             alloc,
@@ -232,17 +263,23 @@ fn ring_stop(alloc: Global, elements: &[&Element], ring: &RingCall) -> Stop {
     }
 }
 
-/// The call behind this many others in the content of an element.
-fn nth_call<'e>(element: &'e Element, left: &mut usize) -> Option<&'e Attribute> {
+/// The call of a macro that is there, behind this many others in the content of an element.
+fn nth_call<'e>(
+    element: &'e Element,
+    names: &MacroNames<'_>,
+    left: &mut usize,
+) -> Option<&'e Attribute> {
     for part in &element.content {
         if let Content::Element(child) = part {
             if let Some(attribute) = call_in(child) {
-                if *left == 0 {
-                    return Some(attribute);
+                if names.number_of(attribute).is_some() {
+                    if *left == 0 {
+                        return Some(attribute);
+                    }
+                    *left -= 1;
                 }
-                *left -= 1;
             }
-            if let Some(attribute) = nth_call(child, left) {
+            if let Some(attribute) = nth_call(child, names, left) {
                 return Some(attribute);
             }
         }

@@ -50,7 +50,7 @@ const RENDERING: &[&str] = &[
     "text", "number", "label", "date", "names", "group", "choose",
 ];
 
-/// Elements of CSL-M that are read over.
+/// Elements of CSL-M that are ignored.
 const SKIPPED: &[&str] = &["institution"];
 
 pub const STYLE: Shape = Shape {
@@ -389,7 +389,7 @@ impl Shape {
     }
 }
 
-/// Notes what an element has that is read over, and refuses elements in it that aren't known.
+/// Notes what an element has that is ignored, and, as faults, elements in it that aren't known.
 pub fn check(
     element: &Element,
     shape: &'static Shape,
@@ -400,7 +400,10 @@ pub fn check(
     }
     for part in &element.content {
         match part {
-            Content::Element(child) => check_child(child, shape, reading)?,
+            Content::Element(child) => {
+                let known = check_child(child, shape, reading);
+                reading.go_on(known)?;
+            }
             Content::Text(text) if !shape.has_text => {
                 check_text(element, text.as_str(), reading)?;
             }
@@ -432,7 +435,7 @@ fn check_attribute(
     reading.note(attribute.offset, name, oddity)
 }
 
-/// Notes an element that is read over, and refuses one that isn't known.
+/// Notes an element that is ignored, and refuses one that isn't known.
 fn check_child(
     child: &Element,
     shape: &'static Shape,

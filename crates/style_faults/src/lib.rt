@@ -4,5 +4,6 @@
 pub mod error;
 pub mod fault;
 pub mod nearest;
+pub mod refusal;
 pub mod stop;
 pub mod warning;

@@ -6,7 +6,7 @@ use crate::fault::{Fault, Wanted};
 use std::alloc::{AllocError, AllocFailed, Global};
 use xml_reader::error::place_at;
 
-/// How many characters of the text an error or a warning tells at most.
+/// How many characters of the text an error or a warning quotes at most.
 pub const MAX_FOUND: usize = 40;
 
 /// Why reading stops.
@@ -26,6 +26,14 @@ impl Stop {
                 fault: Fault { found, wanted },
             },
             Err(_) => Stop::OutOfMemory,
+        }
+    }
+
+    /// Its offset; lack of memory comes before all else.
+    pub fn offset(&self) -> usize {
+        match self {
+            Stop::At { offset, .. } => *offset,
+            Stop::OutOfMemory => 0,
         }
     }
 

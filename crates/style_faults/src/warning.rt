@@ -9,7 +9,7 @@ use xml_reader::error::Place;
 #[derive(Debug, Drop)]
 pub struct Warning {
     pub place: Place,
-    /// What stands there, as a fault tells it.
+    /// What stands there, as a fault quotes it.
     pub found: String,
     pub oddity: Oddity,
 }
@@ -17,7 +17,7 @@ pub struct Warning {
 /// What is odd.
 #[derive(Clone, Copy, Debug, PartialEq, Eq)]
 pub enum Oddity {
-    /// An attribute that CSL 1.0.2 doesn't give to this element. It is read over.
+    /// An attribute that CSL 1.0.2 doesn't give to this element. It is ignored.
     Attribute {
         element: &'static str,
         nearest: Option<&'static str>,
@@ -27,10 +27,10 @@ pub enum Oddity {
         kind: WordKind,
         nearest: Option<&'static str>,
     },
-    /// An element that CSL 1.0.2 lacks and that is read over: of CSL-M, of another namespace, or in
+    /// An element that CSL 1.0.2 lacks and that is ignored: of CSL-M, of another namespace, or in
     /// `info`.
     Element,
-    /// Text where CSL has none. It is read over.
+    /// Text where CSL has none. It is ignored.
     Text,
     /// Another version than 1.0.
     Version,

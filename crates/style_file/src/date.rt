@@ -66,8 +66,8 @@ pub struct DatePart {
 /// Where the form of a date comes from.
 #[derive(Drop)]
 pub enum DateFormat {
-    /// From the locale: its date of this form, of which these parts are written. The style's own
-    /// parts say how the locale's are set.
+    /// From the locale: these parts of its date of this form. The style's own parts say how the
+    /// locale's are set.
     Localized {
         form: DateForm,
         parts: DateParts,

@@ -62,7 +62,7 @@ const PRIMARY_DIALECTS: &[(&str, &str)] = &[
 /// The language whose locale file stands for all that others lack.
 const LAST_RESORT: &str = "en-US";
 
-/// Whether two language tags are the same; case is not told apart.
+/// Whether two language tags are the same; case is ignored.
 pub fn is_same_language(tag: &str, other: &str) -> bool {
     tag.eq_ignore_ascii_case(other)
 }

@@ -71,7 +71,7 @@ pub struct CitationOptions {
     pub collapse: Option<Collapse>,
     /// What stands between year suffixes; absent, it is the layout's delimiter.
     pub year_suffix_delimiter: Option<String>,
-    /// What stands behind collapsed cites; absent, it is the layout's delimiter.
+    /// What follows collapsed cites; absent, it is the layout's delimiter.
     pub after_collapse_delimiter: Option<String>,
     /// How many notes behind an earlier one a cite is near at most.
     pub near_note_distance: u32,

@@ -23,18 +23,31 @@ pub(crate) fn elements_of(
     let mut elements = Vec::new(reading.alloc);
     for part in &parent.content {
         if let Content::Element(child) = part {
-            let element = match csl_name(child) {
-                "names" => Some(names_of(child, reading)?),
-                "group" => Some(group_of(child, reading)?),
-                "choose" => Some(choose_of(child, reading)?),
-                _ => plain_element(child, reading)?,
-            };
-            if let Some(element) = element {
-                elements.push(element)?;
-            }
+            let pushed = push_element(child, &mut elements, reading);
+            reading.go_on(pushed)?;
         }
     }
     Ok(elements)
+}
+
+/// Adds the element that this is, where it writes something.
+#[cycle(rendering)]
+fn push_element(
+    element: &Element,
+    elements: &mut Vec<RenderingElement>,
+    reading: &mut Reading<'_>,
+) -> Result<(), Stop> {
+    let read = match csl_name(element) {
+        "names" => names_of(element, reading)?,
+        "group" => group_of(element, reading)?,
+        "choose" => choose_of(element, reading)?,
+        _ => match plain_element(element, reading)? {
+            Some(plain) => plain,
+            None => return Ok(()),
+        },
+    };
+    elements.push(read)?;
+    Ok(())
 }
 
 /// The element without others in it that this is; none where it writes nothing.
@@ -103,13 +116,15 @@ fn branches_of(choose: &Element, reading: &mut Reading<'_>) -> Result<Vec<Branch
     for part in &choose.content {
         if let Content::Element(child) = part {
             if let Some(shape) = branch_shape(csl_name(child)) {
-                let (rule, tests) = rule_of(child, shape, reading)?;
+                let rule = rule_of(child, shape, reading);
                 let elements = elements_of(child, reading)?;
-                branches.push(Branch {
-                    rule,
-                    tests,
-                    elements,
-                })?;
+                if let Some((rule, tests)) = reading.go_on(rule)? {
+                    branches.push(Branch {
+                        rule,
+                        tests,
+                        elements,
+                    })?;
+                }
             }
         }
     }

@@ -4,13 +4,14 @@ ghost use Rattle.style_faults.specs.Places.{IsErrorIn};
 
 use crate::locale::locale_of;
 use crate::style::style_of;
-use std::alloc::Global;
+use std::alloc::{AllocError, Global};
 use style_elements::attributes::{attribute, needed};
 use style_elements::children::{NAMESPACE, local_name};
 use style_elements::macros::MacroTable;
 use style_elements::reading::Reading;
 use style_faults::error::StyleError;
 use style_faults::fault::{Root, Wanted};
+use style_faults::refusal::Refusal;
 use style_faults::stop::Stop;
 use style_faults::warning::{Note, Oddity, Warning, warnings_of};
 use style_file::locale::LocaleFile;
@@ -69,6 +70,27 @@ pub fn read_file(alloc: Global, text: &str) -> Result<(CslFile, Vec<Warning>), S
     }
 }
 
+/// What is wrong with a style or a locale, by its root, in the order of the places: nothing, or one
+/// fault where the text is no XML document that is read, or else 20 faults at most.
+///
+/// # Errors
+///
+/// Where memory is refused.
+pub fn faults_in_file(alloc: Global, text: &str) -> Result<Vec<StyleError>, AllocError> {
+    let mut errors = Vec::new(alloc);
+    match root_of(alloc, text) {
+        Ok(root) => match file_in(alloc, &root) {
+            Ok(_) => Ok(errors),
+            Err(refusal) => refusal.all_in_text(alloc, text),
+        },
+        Err(StyleError::OutOfMemory) => Err(AllocError),
+        Err(error) => {
+            errors.push(error)?;
+            Ok(errors)
+        }
+    }
+}
+
 /// The root of the document that the text is.
 fn root_of(alloc: Global, text: &str) -> Result<Element, StyleError>
     ensures { IfErr result (IsErrorIn text.now) }
@@ -80,17 +102,17 @@ fn root_of(alloc: Global, text: &str) -> Result<Element, StyleError>
     }
 }
 
-/// What was read of the text, with the places of its warnings, or of what stopped the reading.
+/// What was read of the text, with the places of its warnings, or of what is wrong first.
 fn placed<T: Drop>(
     alloc: Global,
     text: &str,
-    outcome: Result<(T, Vec<Note>), Stop>,
+    outcome: Result<(T, Vec<Note>), Refusal>,
 ) -> Result<(T, Vec<Warning>), StyleError>
     ensures { IfErr result (IsErrorIn text.now) }
 {
     match outcome {
         Ok((value, notes)) => with_warnings(alloc, text, value, notes),
-        Err(stop) => Err(stop.in_text(text)),
+        Err(refusal) => Err(refusal.first_in_text(text)),
     }
 }
 
@@ -110,7 +132,7 @@ fn with_warnings<T: Drop>(
 }
 
 /// What the document with this root is.
-fn file_in(alloc: Global, root: &Element) -> Result<(CslFile, Vec<Note>), Stop> {
+fn file_in(alloc: Global, root: &Element) -> Result<(CslFile, Vec<Note>), Refusal> {
     match local_name(root) {
         "style" => {
             let (style, notes) = style_in(alloc, root)?;
@@ -120,36 +142,61 @@ fn file_in(alloc: Global, root: &Element) -> Result<(CslFile, Vec<Note>), Stop> 
             let (locale, notes) = locale_in(alloc, root)?;
             Ok((CslFile::Locale(locale), notes))
         }
-        other => Err(Stop::at(alloc, root.offset, other, Wanted::Root(Root::Either))),
+        other => Err(other_root(alloc, root, other, Root::Either)),
     }
+}
+
+/// The root of this name isn't what is wanted.
+fn other_root(alloc: Global, root: &Element, name: &str, wanted: Root) -> Refusal {
+    let stop = Stop::at(alloc, root.offset, name, Wanted::Root(wanted));
+    Refusal::of_stop(alloc, stop)
 }
 
 /// The style with this root.
-fn style_in(alloc: Global, root: &Element) -> Result<(StyleFile, Vec<Note>), Stop> {
+fn style_in(alloc: Global, root: &Element) -> Result<(StyleFile, Vec<Note>), Refusal> {
     let name = local_name(root);
     if name != "style" {
-        return Err(Stop::at(alloc, root.offset, name, Wanted::Root(Root::Style)));
+        return Err(other_root(alloc, root, name, Root::Style));
     }
-    let mut reading = Reading::new(alloc, MacroTable::of_style(alloc, root)?);
-    check_root(root, &mut reading)?;
-    let style = style_of(root, &mut reading)?;
-    Ok((style, reading.into_notes()))
+    let mut reading = match reading_of_style(alloc, root) {
+        Ok(reading) => reading,
+        Err(stop) => return Err(Refusal::of_stop(alloc, stop)),
+    };
+    let style = style_below(root, &mut reading);
+    reading.settled(style)
+}
+
+/// A reader at the beginning of a style. What is wrong with the macros as a whole is noted.
+fn reading_of_style(alloc: Global, root: &Element) -> Result<Reading<'_>, Stop> {
+    match MacroTable::of_style(alloc, root) {
+        Ok(macros) => Ok(Reading::new(alloc, macros)),
+        Err(stop) => {
+            let mut reading = Reading::new(alloc, MacroTable::unordered(alloc, root)?);
+            reading.go_on::<()>(Err(stop))?;
+            Ok(reading)
+        }
+    }
+}
+
+fn style_below(root: &Element, reading: &mut Reading<'_>) -> Result<StyleFile, Stop> {
+    check_root(root, reading)?;
+    style_of(root, reading)
 }
 
 /// The locale file with this root.
-fn locale_in(alloc: Global, root: &Element) -> Result<(LocaleFile, Vec<Note>), Stop> {
+fn locale_in(alloc: Global, root: &Element) -> Result<(LocaleFile, Vec<Note>), Refusal> {
     let name = local_name(root);
     if name != "locale" {
-        return Err(Stop::at(alloc, root.offset, name, Wanted::Root(Root::Locale)));
+        return Err(other_root(alloc, root, name, Root::Locale));
     }
     let mut reading = Reading::new(alloc, MacroTable::empty(alloc));
-    check_root(root, &mut reading)?;
-    let file = locale_file_of(root, &mut reading)?;
-    Ok((file, reading.into_notes()))
+    let file = locale_file_of(root, &mut reading);
+    reading.settled(file)
 }
 
 /// The locale file that this root is.
 fn locale_file_of(root: &Element, reading: &mut Reading<'_>) -> Result<LocaleFile, Stop> {
+    check_root(root, reading)?;
     let language = needed(reading.alloc, root, "xml:lang")?.value.clone()?;
     Ok(LocaleFile {
         language,

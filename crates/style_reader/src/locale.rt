@@ -19,7 +19,10 @@ pub(crate) fn style_locales(
     let mut locales = Vec::new(reading.alloc);
     for child in style.children() {
         if csl_name(child) == "locale" {
-            locales.push(style_locale(child, reading)?)?;
+            let locale = style_locale(child, reading);
+            if let Some(locale) = reading.go_on(locale)? {
+                locales.push(locale)?;
+            }
         }
     }
     Ok(locales)
@@ -50,7 +53,10 @@ fn dates_of(locale: &Element, reading: &mut Reading<'_>) -> Result<Vec<LocaleDat
     let mut dates = Vec::new(reading.alloc);
     for child in locale.children() {
         if csl_name(child) == "date" {
-            dates.push(locale_date_of(child, reading)?)?;
+            let date = locale_date_of(child, reading);
+            if let Some(date) = reading.go_on(date)? {
+                dates.push(date)?;
+            }
         }
     }
     Ok(dates)
@@ -85,7 +91,8 @@ fn terms_in(element: &Element, reading: &mut Reading<'_>) -> Result<Vec<Term>, S
     let mut terms = Vec::new(reading.alloc);
     for child in element.children() {
         if csl_name(child) == "term" {
-            if let Some(term) = term_of(child, reading)? {
+            let term = term_of(child, reading);
+            if let Some(Some(term)) = reading.go_on(term)? {
                 terms.push(term)?;
             }
         }

@@ -68,8 +68,8 @@ fn name_variables(element: &Element, reading: &mut Reading<'_>) -> Result<Vec<Na
     Ok(variables)
 }
 
-/// The `name` and the `label` in a `names`. The label stands behind the names where it stands
-/// behind their `name`.
+/// The `name` and the `label` in a `names`. The label follows the names where it follows their
+/// `name`.
 fn name_and_label(
     names: &Element,
     reading: &mut Reading<'_>,

@@ -23,12 +23,14 @@ use xml_reader::tree::{Attribute, Element};
 /// The citation that an element `citation` is.
 pub(crate) fn citation_of(element: &Element, reading: &mut Reading<'_>) -> Result<Citation, Stop> {
     check(element, &CITATION, reading)?;
-    let options = citation_options(reading.alloc, element)?;
+    let options = citation_options(reading.alloc, element);
+    let body = body_of(element, reading);
+    let (options, body) = reading.both(options, body)?;
     let Body {
         names,
         sort,
         layout,
-    } = body_of(element, reading)?;
+    } = body;
     Ok(Citation {
         options,
         names,
@@ -43,12 +45,14 @@ pub(crate) fn bibliography_of(
     reading: &mut Reading<'_>,
 ) -> Result<Bibliography, Stop> {
     check(element, &BIBLIOGRAPHY, reading)?;
-    let options = bibliography_options(reading.alloc, element)?;
+    let options = bibliography_options(reading.alloc, element);
+    let body = body_of(element, reading);
+    let (options, body) = reading.both(options, body)?;
     let Body {
         names,
         sort,
         layout,
-    } = body_of(element, reading)?;
+    } = body;
     Ok(Bibliography {
         options,
         names,
@@ -66,10 +70,13 @@ struct Body {
 }
 
 fn body_of(section: &Element, reading: &mut Reading<'_>) -> Result<Body, Stop> {
-    let sort = sort_of(section, reading)?;
-    let layout = layout_of(section, reading)?;
+    let names = inherited_options(reading.alloc, section);
+    let sort = sort_of(section, reading);
+    let head = reading.both(names, sort);
+    let layout = layout_of(section, reading);
+    let ((names, sort), layout) = reading.both(head, layout)?;
     Ok(Body {
-        names: inherited_options(reading.alloc, section)?,
+        names,
         sort,
         layout,
     })
@@ -96,7 +103,7 @@ fn citation_options(alloc: Global, element: &Element) -> Result<CitationOptions,
     })
 }
 
-/// How cites that read alike are told apart.
+/// How cites that read alike are disambiguated.
 #[derive(Clone, Copy)]
 struct Disambiguation {
     names: bool,
@@ -162,7 +169,8 @@ fn keys_of(sort: &Element, reading: &mut Reading<'_>) -> Result<Vec<SortKey>, St
     let mut keys = Vec::new(reading.alloc);
     for child in sort.children() {
         if csl_name(child) == "key" {
-            if let Some(key) = key_of(child, reading)? {
+            let key = key_of(child, reading);
+            if let Some(Some(key)) = reading.go_on(key)? {
                 keys.push(key)?;
             }
         }
@@ -209,7 +217,8 @@ fn sort_by(attribute: &Attribute, reading: &mut Reading<'_>) -> Result<Option<So
 fn layout_of(section: &Element, reading: &mut Reading<'_>) -> Result<Layout, Stop> {
     let layout = needed_child(reading.alloc, section, "layout")?;
     check(layout, &LAYOUT, reading)?;
-    reading.macros.check_layout(reading.alloc, layout)?;
+    let size = reading.macros.check_layout(reading.alloc, layout);
+    reading.go_on(size)?;
     let elements = elements_of(layout, reading)?;
     layout_with(reading.alloc, layout, elements)
 }

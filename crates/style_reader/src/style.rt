@@ -14,9 +14,10 @@ use style_faults::fault::Wanted;
 use style_faults::stop::Stop;
 use style_faults::warning::Oddity;
 use style_file::locale::StyleLocale;
+use style_file::names::InheritedNameOptions;
 use style_file::sections::{Bibliography, Citation};
 use style_file::style::{
-    CslStyle, DependentStyle, GlobalOptions, Macro, ParticleDemotion, StyleFile,
+    CslStyle, DependentStyle, GlobalOptions, Macro, ParticleDemotion, StyleClass, StyleFile,
 };
 use xml_reader::tree::{Attribute, Element};
 
@@ -96,17 +97,23 @@ fn dependent_of(
 
 /// What a style that stands for itself says.
 fn independent_of(root: &Element, reading: &mut Reading<'_>) -> Result<CslStyle, Stop> {
-    let class = needed_value(reading.alloc, root, "class", CLASSES)?;
-    let options = options_of(reading.alloc, root)?;
-    let info = info_of(root, reading)?;
-    let names = inherited_options(reading.alloc, root)?;
-    let default_locale = language_tag(reading.alloc, root, "default-locale")?;
+    let attributes = attributes_of(reading.alloc, root);
+    let info = info_of(root, reading);
+    let head = reading.both(attributes, info);
+    let parts = parts_of(root, reading);
+    let ((attributes, info), parts) = reading.both(head, parts)?;
+    let StyleAttributes {
+        class,
+        default_locale,
+        options,
+        names,
+    } = attributes;
     let StyleParts {
         locales,
         macros,
         citation,
         bibliography,
-    } = parts_of(root, reading)?;
+    } = parts;
     Ok(CslStyle {
         info,
         class,
@@ -117,6 +124,24 @@ fn independent_of(root: &Element, reading: &mut Reading<'_>) -> Result<CslStyle,
         macros,
         citation,
         bibliography,
+    })
+}
+
+/// The attributes of a style.
+#[derive(Drop)]
+struct StyleAttributes {
+    class: StyleClass,
+    default_locale: Option<String>,
+    options: GlobalOptions,
+    names: InheritedNameOptions,
+}
+
+fn attributes_of(alloc: Global, root: &Element) -> Result<StyleAttributes, Stop> {
+    Ok(StyleAttributes {
+        class: needed_value(alloc, root, "class", CLASSES)?,
+        default_locale: language_tag(alloc, root, "default-locale")?,
+        options: options_of(alloc, root)?,
+        names: inherited_options(alloc, root)?,
     })
 }
 
@@ -141,17 +166,22 @@ struct StyleParts {
 }
 
 fn parts_of(root: &Element, reading: &mut Reading<'_>) -> Result<StyleParts, Stop> {
-    let citation = needed_child(reading.alloc, root, "citation")?;
     let locales = style_locales(root, reading)?;
     let macros = macros_of(root, reading)?;
-    let citation = citation_of(citation, reading)?;
-    let bibliography = optional_bibliography(root, reading)?;
+    let citation = needed_citation(root, reading);
+    let bibliography = optional_bibliography(root, reading);
+    let (citation, bibliography) = reading.both(citation, bibliography)?;
     Ok(StyleParts {
         locales,
         macros,
         citation,
         bibliography,
     })
+}
+
+fn needed_citation(root: &Element, reading: &mut Reading<'_>) -> Result<Citation, Stop> {
+    let citation = needed_child(reading.alloc, root, "citation")?;
+    citation_of(citation, reading)
 }
 
 /// The macros of a style, each behind those that it calls.
@@ -170,7 +200,10 @@ fn numbered_macros(root: &Element, reading: &mut Reading<'_>) -> Result<Vec<(usi
     let mut numbered = Vec::new(reading.alloc);
     for child in root.children() {
         if csl_name(child) == "macro" {
-            numbered.push(numbered_macro(child, reading)?)?;
+            let each = numbered_macro(child, reading);
+            if let Some(each) = reading.go_on(each)? {
+                numbered.push(each)?;
+            }
         }
     }
     Ok(numbered)

@@ -2,7 +2,7 @@
 //! tests/styles and tests/references run it.
 //!
 //! Standard input has documents, each behind a line with a letter (`x` for XML, `s` for a style or a
-//! locale, `r` for references) and nine digits, its length in bytes. What is said of each is told in
+//! locale, `r` for references) and nine digits, its length in bytes. What is said of each stands in
 //! src/xml.rt, src/styles.rt and src/references.rt. The argument names the task (src/task.rt). All
 //! is printed at once. The exit status is 5 where memory is refused, and nothing is printed then.
 #![tactic(auto)]

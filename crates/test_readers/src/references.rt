@@ -51,7 +51,7 @@ pub fn count_values(alloc: Global, document: &[u8]) -> usize {
 
 /// Appends all references and warnings.
 fn dump_read(read: &ReadReferences, dump: &mut Dump) {
-    for reference in read.references.values() {
+    for reference in read.references.as_slice() {
         dump_reference(reference, dump);
     }
     for warning in &read.warnings {

@@ -92,8 +92,7 @@ pub enum Wanted {
     PrefixDeclaration,
     /// At most `MAX_PREFIXES` declared prefixes.
     FewerPrefixes,
-    /// The end tag of the element of this name, of which no more than `MAX_FOUND` characters are
-    /// here.
+    /// The end tag of the element of this name. The name is cut off after `MAX_FOUND` characters.
     EndTag(String),
     /// At most `MAX_DEPTH` elements in one another.
     LessDepth,

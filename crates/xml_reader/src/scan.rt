@@ -63,7 +63,7 @@ pub(crate) fn name(text: &str) -> Result<(&str, &str), Stop>
     }
 }
 
-/// The text before the mark, and what stands behind the mark. `piece` is the text from the
+/// The text before the mark, and the text that follows the mark. `piece` is the text from the
 /// beginning of what the mark ends.
 pub(crate) fn split_at_mark<'a>(
     text: &'a str,

@@ -8,5 +8,5 @@ pub returns : goal.returns
 returns g c =
     IfOk-weaker c.numbered.result _ _
     (λ v made. suffixes-made g.T.PartialEq.eq g.met.T.Eq.laws (members (renders_view c.args.cites.now) c.args.group.now) c.in_ok-firsts.firsts.keys c.as_slice.result.now v.items
-    made c.as_slice.ensures.keys c.in_ok-firsts.ensures)
+    made c.as_slice.ensures c.in_ok-firsts.ensures)
     c.numbered.ensures

@@ -4,9 +4,9 @@ use Rattle.csl_entries.proofs.table.place_entry.Goals as goal
 
 pub returns-clause-added : goal.returns-clause-added
 returns-clause-added g c =
-    insert-view (λ e. e.now) g.T.PartialEq.eq _ c.args.entries.now.keys c.insert_full.new.self.keys c.in_ok-place.ensures.keys
+    insert-view (λ e. e.now) g.T.PartialEq.eq _ c.args.entries.now.keys c.insert.new.self.keys c.in_ok-place.ensures.keys
 
 pub returns-clause-placed : goal.returns-clause-placed
 returns-clause-placed g c =
-    inserted g.T.PartialEq.eq g.met.T.Eq.laws (λ e. e.now) _ c.args.entries.now.keys c.insert_full.new.self.keys
+    inserted g.T.PartialEq.eq g.met.T.Eq.laws (λ e. e.now) _ c.args.entries.now.keys c.insert.new.self.keys
     c.in_ok-place.place c.in_ok-place.ensures.keys c.in_ok-place.ensures.index

@@ -1,6 +1,6 @@
-use Rattle.std.proofs.Common.{Some, cond, ◌∙◌}
-use Rattle.std.specs.Prelude.{bytes_eq}
-use Rattle.std.specs.HashMap.{get}
+use Rattle.std.proofs.Common.{Some, cond, sym, ◌∙◌}
+use Rattle.std.specs.Cmp.Lexicographic.{texts_ties}
+use Rattle.csl_mentions.specs.Classes.{class_at}
 use Rattle.csl_mentions.proofs.Classing.{one-more}
 use Rattle.csl_mentions.proofs.classes.add.Goals as goal
 
@@ -8,4 +8,4 @@ pub returns : goal.returns
 returns c =
     one-more c.args.classes.now c.insert.new.self c.args.k c.args.mention.now
     (λ q. c.in_ok-insert.ensures.updates.0 q
-    ∙ (λ t. cond (bytes_eq (c.in_ok-clone.ensures.cases t) q) (Some (c.class_with-class.ensures t)) (get bytes_eq c.args.classes.now q)))
+    ∙ (λ t. cond (sym (texts_ties (c.in_ok-clone.ensures.cases t) q) t) (Some (c.class_with-class.ensures t)) (class_at c.args.classes.now q)))

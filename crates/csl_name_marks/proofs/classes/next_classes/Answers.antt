@@ -11,11 +11,11 @@ loop-k-preserved c =
     let k = c.loop-k.k in
     let x = c.index-group-k.result in
     let own = get_or c.args.classes.now k 0 in
-    keys-more rule c.args.i c.args.group.now c.args.classes.now k x own c.in_ok-added.added.0
-    (record { class = own; person = c.in_ok-person.person }) c.loop-k.keys.keys c.insert_full.new.self.keys c.loop-k.found.items c.push.new.self.items
+    keys-more rule c.args.i c.args.group.now c.args.classes.now k x own c.in_ok-insert.field-0
+    (record { class = own; person = c.in_ok-person.person }) c.loop-k.keys.keys c.insert.new.self.keys c.loop-k.found.items c.push.new.self.items
     c.loop-k-test.true c.requires.long c.index-group-k.is refl
     (λ j. record { class = own; person = (c.in_ok-person.ensures ∙ ap (kept_at rule c.args.i) c.as_slice.ensures) j })
-    c.in_ok-added.ensures.index c.in_ok-added.ensures.keys c.in_ok-push.ensures.items c.loop-k.invariant
+    c.in_ok-insert.ensures.index c.in_ok-insert.ensures.keys c.in_ok-push.ensures.items c.loop-k.invariant
 
 pub returns : goal.returns
 returns c =

@@ -1,7 +1,5 @@
-use Rattle.std.proofs.Common.{◌≡◌, ℕ, suc, ◌+◌, ◌∙◌, subst, List, [], ◌∷◌, length, refl, sym, ap, map, get_or, Bor, Some, option_map, arith}
-use Rattle.std.specs.Prelude.{slice_get}
+use Rattle.std.proofs.Common.{◌≡◌, ℕ, suc, ◌+◌, ◌<◌, ◌∙◌, subst, List, [], ◌∷◌, length, refl, sym, ap, map, get_or, Bor, arith}
 use Rattle.std.proofs.lemmas.List.{get_or-map}
-use Rattle.std.proofs.lemmas.Option.{get_or_from_slice_get, slice_get_within}
 use Rattle.csl_style_values.specs.Element.{Name}
 use Rattle.csl_style_values.specs.Calls.{calls_of_all}
 use Rattle.csl_style_values.specs.Ring.{macro_calls}
@@ -11,9 +9,13 @@ use Rattle.csl_styles.proofs.Gathering.{falls}
 use Rattle.csl_styles.proofs.Suffixes.{IsGathered, gathered-start, gathered-more, at_once, at_name, at_end}
 use Rattle.csl_styles.proofs.suffix_text.suffix_stands.Goals as goal
 
-name_at : (xs : List (Bor Name)) (i : ℕ) (x : Bor Name) → slice_get xs i ≡ Some x → x.now ≡ get_or (map (λ s. s.now) xs) i x.now
-name_at xs i x e =
-    ap (λ (s : Bor Name). s.now) (sym (get_or_from_slice_get xs i x x e)) ∙ sym (get_or-map (λ (s : Bor Name). s.now) xs i x x.now (slice_get_within xs i x e))
+-- what an index past the end would read
+abbrev nowhere : Bor Name
+nowhere = record { ref_ptr = (0, 0); now = [] }
+
+name_at : (xs keys : List (Bor Name)) (i : ℕ) → xs ≡ keys → i < length keys → (get_or xs i nowhere).now ≡ get_or (map (λ s. s.now) keys) i (get_or xs i nowhere).now
+name_at xs keys i e lt =
+    ap (λ ks. (get_or ks i nowhere).now) e ∙ sym (get_or-map (λ (s : Bor Name). s.now) keys i nowhere (get_or xs i nowhere).now lt)
 
 names_len : (xs : List (Bor Name)) → length (map (λ s. s.now) xs) ≡ length xs
 names_len [] = refl
@@ -25,7 +27,7 @@ returns-then-have_suffix c =
 
 pub loop-at-init : goal.loop-at-init
 loop-at-init c =
-    rw (c.in_ok-add_called.ensures, c.new-names.ensures.empty) (gathered-start (macros_of c.args.macros.now) c.requires (calls_of_all (elements_view c.args.elements.now)))
+    rw (c.in_ok-add_called.ensures, c.new-names.ensures) (gathered-start (macros_of c.args.macros.now) c.requires (calls_of_all (elements_view c.args.elements.now)))
 
 pub loop-at-smaller : goal.loop-at-smaller
 loop-at-smaller c =
@@ -33,7 +35,7 @@ loop-at-smaller c =
     let ms = macros_of c.args.macros.now in
     let names = map (λ (s : Bor Name). s.now) l.names.keys in
     let n = names_len l.names.keys in
-    let h = falls ms (macro_calls ms c.unwrap-next.result.now.now) names l.at (omega (arith, n, c.loop-at-test.true, c.len.ensures.len)) in
+    let h = falls ms (macro_calls ms (get_or c.as_slice.result.now l.at nowhere).now) names l.at (omega (arith, n, c.loop-at-test.true, c.len.ensures)) in
     rw (c.in_ok-found.ensures.gathered c.if-found.false) h
 
 pub loop-at-preserved : goal.loop-at-preserved
@@ -43,10 +45,9 @@ loop-at-preserved c =
     let first = calls_of_all (elements_view c.args.elements.now) in
     let names = map (λ (s : Bor Name). s.now) l.names.keys in
     let n = names_len l.names.keys in
-    let next = c.unwrap-next.result.now in
-    let there = sym (ap (option_map (λ (s : Bor (Bor Name)). s.now)) (sym c.unwrap-next.ensures) ∙ c.get_index.ensures.key) in
-    let more = gathered-more ms c.requires first names l.at next.now l.invariant (omega (arith, n, c.loop-at-test.true, c.len.ensures.len))
-    (name_at l.names.keys l.at next there) (sym c.in_ok-found.ensures.found ∙ c.if-found.false) in
+    let next = get_or c.as_slice.result.now l.at nowhere in
+    let more = gathered-more ms c.requires first names l.at next.now l.invariant (omega (arith, n, c.loop-at-test.true, c.len.ensures))
+    (name_at c.as_slice.result.now l.names.keys l.at c.as_slice.ensures (omega (arith, c.loop-at-test.true, c.len.ensures))) (sym c.in_ok-found.ensures.found ∙ c.if-found.false) in
     subst (λ ns. IsGathered ms first ns (l.at + 1)) (sym (c.in_ok-found.ensures.gathered c.if-found.false)) more
 
 pub returns-then-found : goal.returns-then-found
@@ -54,14 +55,13 @@ returns-then-found c =
     let l = c.loop-at in
     let names = map (λ (s : Bor Name). s.now) l.names.keys in
     let n = names_len l.names.keys in
-    let next = c.unwrap-next.result.now in
-    let there = sym (ap (option_map (λ (s : Bor (Bor Name)). s.now)) (sym c.unwrap-next.ensures) ∙ c.get_index.ensures.key) in
-    at_name (macros_of c.args.macros.now) c.requires (elements_view c.args.elements.now) names l.at next.now l.invariant (omega (arith, n, c.loop-at-test.true, c.len.ensures.len))
-    (name_at l.names.keys l.at next there) (sym c.in_ok-found.ensures.found ∙ c.if-found.true)
+    let next = get_or c.as_slice.result.now l.at nowhere in
+    at_name (macros_of c.args.macros.now) c.requires (elements_view c.args.elements.now) names l.at next.now l.invariant (omega (arith, n, c.loop-at-test.true, c.len.ensures))
+    (name_at c.as_slice.result.now l.names.keys l.at c.as_slice.ensures (omega (arith, c.loop-at-test.true, c.len.ensures))) (sym c.in_ok-found.ensures.found ∙ c.if-found.true)
 
 pub returns : goal.returns
 returns c =
     let l = c.loop-at in
     let n = names_len l.names.keys in
-    at_end (macros_of c.args.macros.now) c.requires (elements_view c.args.elements.now) (map (λ (s : Bor Name). s.now) l.names.keys) l.at l.invariant (omega (arith, n, c.loop-at-test.false, c.len.ensures.len))
+    at_end (macros_of c.args.macros.now) c.requires (elements_view c.args.elements.now) (map (λ (s : Bor Name). s.now) l.names.keys) l.at l.invariant (omega (arith, n, c.loop-at-test.false, c.len.ensures))
     (sym c.have_suffix.ensures ∙ c.if-have_suffix.false)

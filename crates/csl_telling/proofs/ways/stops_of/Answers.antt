@@ -13,9 +13,9 @@ loop-look-init c = record {
 
 pub loop-look-preserved : goal.loop-look-preserved
 loop-look-preserved c =
-    one-more-copied c.args.steps.now.keys c.loop-look.steps.keys c.insert_full.new.self.keys c.args.group c.args.looks.now c.loop-look.look-index c.look-item.result
-    c.in_ok-copied.field-0 c.in_ok-copied-2.field-0 c.loop-look.node c.in_ok-made.made.0 c.loop-look.stops.items c.push.new.self.items c.loop-look-test.true c.look-item.is
-    c.loop-look.invariant c.in_ok-copied.ensures c.in_ok-copied-2.ensures c.in_ok-made.ensures.keys c.in_ok-made.ensures.index c.in_ok-push.ensures.items
+    one-more-copied c.args.steps.now.keys c.loop-look.steps.keys c.insert.new.self.keys c.args.group c.args.looks.now c.loop-look.look-index c.look-item.result
+    c.in_ok-copied.field-0 c.in_ok-copied-2.field-0 c.loop-look.node c.in_ok-insert.field-0 c.loop-look.stops.items c.push.new.self.items c.loop-look-test.true c.look-item.is
+    c.loop-look.invariant c.in_ok-copied.ensures c.in_ok-copied-2.ensures c.in_ok-insert.ensures.keys c.in_ok-insert.ensures.index c.in_ok-push.ensures.items
 
 pub returns-clause-stops : goal.returns-clause-stops
 returns-clause-stops c =

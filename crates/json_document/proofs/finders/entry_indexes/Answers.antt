@@ -1,7 +1,7 @@
 -- An entry whose key is there already changes nothing; the index of another one is put in.
 use Rattle.std.proofs.Common.{◌≡◌, Some, length, slice_get, refl, ap, sym, ◌∙◌, take_all}
 use Rattle.std.specs.Prelude.{option_map}
-use Rattle.std.proofs.lemmas.Map.Text.{hash_map_updates_str}
+use Rattle.std.proofs.lemmas.Map.Text.{btree_map_updates_str}
 use Rattle.std.proofs.lemmas.Option.{slice_get_read}
 use Rattle.json_document.specs.Entries.{entry_named}
 use Rattle.json_document.specs.Finders.{text_in}
@@ -21,7 +21,7 @@ loop-index-preserved c =
           c.loop-index-test.true c.index-entries-index.is c.as_str-key.ensures
           (slice_get_read entries (length entries) at entry refl c.loop-index-test.true c.index-entries-index.is) w.by_key-is c.loop-index.invariant
           (sym c.contains_key.ensures ∙ w.if-not-contains_key.true)
-          (hash_map_updates_str c.as_str-key.result.now c.loop-index.by_key w.insert.new.self _ w.in_ok-insert.ensures.updates)
+          (btree_map_updates_str c.as_str-key.result.now c.loop-index.by_key w.insert.new.self _ w.in_ok-insert.ensures.updates)
       | else-not-contains_key w ↦
           kept_at (λ e. e.key) (λ e. Some e) text_in (slice_get entries) entries at entry c.as_str-key.result.now
           c.loop-index.by_key c.if-not-contains_key.by_key

@@ -2,7 +2,7 @@
 use Rattle.std.proofs.Common.{◌≡◌, Option, Some, None, length, slice_get, refl, ap, sym, ◌∙◌, string_bytes, take, take_all}
 use Rattle.std.specs.Prelude.{find, option_map}
 use Rattle.std.specs.Str.{bytes_eq}
-use Rattle.std.proofs.lemmas.Map.Text.{hash_map_updates_str}
+use Rattle.std.proofs.lemmas.Map.Text.{btree_map_updates_str}
 use Rattle.std.proofs.lemmas.Option.{slice_get-map, slice_get_read}
 use Rattle.csl_style_values.specs.StyleView.{style_view}
 use Rattle.json_document.specs.Finders.{text_in}
@@ -28,7 +28,7 @@ loop-index-preserved c =
           ∙ ap (option_map (λ s. style_view s.style)) (slice_get_read styles (length styles) at named refl c.loop-index-test.true c.index-styles-index.is))
           w.by_name-is c.loop-index.invariant
           (sym c.contains_key.ensures ∙ w.if-not-contains_key.true)
-          (hash_map_updates_str c.as_str-name.result.now c.loop-index.by_name w.insert.new.self _ w.in_ok-insert.ensures.updates)
+          (btree_map_updates_str c.as_str-name.result.now c.loop-index.by_name w.insert.new.self _ w.in_ok-insert.ensures.updates)
       | else-not-contains_key w ↦
           kept_at (λ s. string_bytes s.name) (λ s. Some (style_view s.style)) text_in (slice_get (unnamed styles)) styles at named c.as_str-name.result.now
           c.loop-index.by_name c.if-not-contains_key.by_name

@@ -1,6 +1,6 @@
 -- An entry whose key is there already changes nothing; another one is put in.
 use Rattle.std.proofs.Common.{refl, ap, sym, ◌∙◌, take_all}
-use Rattle.std.proofs.lemmas.Map.Text.{hash_map_updates_str}
+use Rattle.std.proofs.lemmas.Map.Text.{btree_map_updates_str}
 use Rattle.json_document.specs.Entries.{entry_named}
 use Rattle.json_document.specs.Finders.{text_in}
 use Rattle.json_document.proofs.FirstKeyed.{found-itself, kept_at, added_at}
@@ -15,7 +15,7 @@ loop-entry-preserved c =
           c.loop-entry.by_key c.if-not-contains_key.by_key w.insert.new.self _
           c.loop-entry-test.true c.entry-item.is c.as_str-key.ensures refl w.by_key-is c.loop-entry.invariant
           (sym c.contains_key.ensures ∙ w.if-not-contains_key.true)
-          (hash_map_updates_str c.as_str-key.result.now c.loop-entry.by_key w.insert.new.self _ w.in_ok-insert.ensures.updates)
+          (btree_map_updates_str c.as_str-key.result.now c.loop-entry.by_key w.insert.new.self _ w.in_ok-insert.ensures.updates)
       | else-not-contains_key w ↦
           kept_at (λ e. e.key) (λ e. e) text_in (λ r. r.now) c.args.entries.now c.loop-entry.entry-index c.entry-item.result c.as_str-key.result.now
           c.loop-entry.by_key c.if-not-contains_key.by_key

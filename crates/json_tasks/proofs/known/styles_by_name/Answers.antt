@@ -1,6 +1,6 @@
 -- A style whose name is there already changes nothing; another one is put in.
 use Rattle.std.proofs.Common.{refl, ap, sym, ◌∙◌, string_bytes, take_all}
-use Rattle.std.proofs.lemmas.Map.Text.{hash_map_updates_str}
+use Rattle.std.proofs.lemmas.Map.Text.{btree_map_updates_str}
 use Rattle.csl_style_values.specs.StyleView.{style_view}
 use Rattle.json_document.specs.Finders.{text_in}
 use Rattle.json_styles.specs.NamedStyleView.{named_styles_view}
@@ -18,7 +18,7 @@ loop-named-preserved c =
           c.loop-named.by_name c.if-not-contains_key.by_name w.insert.new.self _
           c.loop-named-test.true c.named-item.is c.as_str-name.ensures.value refl w.by_name-is c.loop-named.invariant
           (sym c.contains_key.ensures ∙ w.if-not-contains_key.true)
-          (hash_map_updates_str c.as_str-name.result.now c.loop-named.by_name w.insert.new.self _ w.in_ok-insert.ensures.updates)
+          (btree_map_updates_str c.as_str-name.result.now c.loop-named.by_name w.insert.new.self _ w.in_ok-insert.ensures.updates)
       | else-not-contains_key w ↦
           kept_at (λ s. string_bytes s.name) (λ s. style_view s.style) text_in (λ r. style_view r.now.style) c.args.styles.now c.loop-named.named-index c.named-item.result c.as_str-name.result.now
           c.loop-named.by_name c.if-not-contains_key.by_name

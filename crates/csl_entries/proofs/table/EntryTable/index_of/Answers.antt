@@ -4,5 +4,5 @@ use Rattle.csl_entries.proofs.table.EntryTable.index_of.Goals as goal
 
 pub returns : goal.returns
 returns g c =
-    c.get_index_of.ensures.index
+    c.index_of.ensures
     ∙ position-view (λ e. e.now) g.T.PartialEq.eq c.args.entry.now c.args.self.now.entries.keys

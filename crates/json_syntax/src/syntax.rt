@@ -8,7 +8,7 @@ const SHOWN: usize = 30;
 
 /// Why a text is no JSON from a place on.
 #[derive(Clone, Copy)]
-pub(crate) enum SyntaxFault {
+pub enum SyntaxFault {
     /// A number is greater than the greatest of 64 bits with a fraction.
     TooLargeNumber,
     /// The text ends before all lists, objects and texts are closed.
@@ -61,7 +61,7 @@ impl fmt::Display for SyntaxFault {
 
 /// A place of a text.
 #[derive(Clone, Copy)]
-pub(crate) struct TextPlace<'t> {
+pub struct TextPlace<'t> {
     /// What stands before it.
     before: &'t str,
     /// What stands there and behind.
@@ -126,7 +126,12 @@ impl<'t> TextPlace<'t> {
         }
     }
 
-    /// What is shown of the line.
+    /// The part of the line around the place that is shown, at most 30 characters before it and 30
+    /// from it on.
+    ///
+    /// # Errors
+    ///
+    /// Where memory is refused.
     pub fn excerpt(&self, alloc: Global) -> Result<String, AllocError> {
         let line = line_end(self.before);
         let skipped = line.chars().count().saturating_sub(SHOWN);
