@@ -9,8 +9,11 @@ a C compiler (CC, or cc) with its binutils.
                     alone over them
     --archive FILE  take this archive as it is, as out/libgamhilon.a of another machine; no
                     toolchain is needed
-    --wheel         build the Python package's wheel too, in out/
-    --wheel-only    build the wheel of what is in out/, and nothing else
+    --wheel         build the Python package's wheel too, in out/, with the program gamhilon: the
+                    one that is built with --after-ci or --archive (without one the wheel has none,
+                    and a line says so), else the one that `rt run` proves and builds first
+    --wheel-only    build the wheel of what is in out/ and the program that is built, and nothing
+                    else
     --release       build the wheel, the archive of a release (release.py), and with dpkg-deb the
                     package for Debian (debian.py), in out/; with --after-ci of the programs that
                     `rt ci` built, else of those that `rt run` proves and builds first
@@ -233,7 +236,8 @@ def build(archive, kit_folder):
 
 
 def build_wheel():
-    """The wheel of the Python package, in out/, of the library that is there."""
+    """The wheel of the Python package, in out/, of the library that is there and the program that
+    is built, if it is."""
     sys.path.insert(0, f'{HERE}/python')
     try:
         import gamhilon_wheel
@@ -245,9 +249,10 @@ def build_wheel():
     tell(f'built {os.path.relpath(OUT)}/{name}')
 
 
-def build_programs():
-    """Has `rt run` prove and build the programs: of a document, and by styles."""
-    for name, words in (('cite_run', []), ('gamhilon', ['--', '--version'])):
+def build_programs(names):
+    """Has `rt run` prove and build programs: of a document, and by styles."""
+    for name in names:
+        words = ['--', '--version'] if name == 'gamhilon' else []
         tell(f'rt run proves and builds crates/{name}')
         with open(f'{ROOT}/crates/cite_run/stdin', 'rb') as example:
             run_and_tell(name, 'rt', 'run', *words, stdin=example, stdout=subprocess.DEVNULL)
@@ -323,8 +328,8 @@ def main(words):
         tell(f'rt lib proves and compiles crates/gamhilon_c, over {count} libraries, and keeps '
              'what it proved; from nothing that takes half an hour to an hour')
         run_and_tell('gamhilon_c', 'rt', 'lib')
-    if with_release and not words:
-        build_programs()
+    if with_wheel and not words:
+        build_programs(['cite_run', 'gamhilon'] if with_release else ['gamhilon'])
     build(archive, kit_folder)
     if with_wheel:
         build_wheel()

@@ -18,7 +18,7 @@
 extern "C" {
 #endif
 
-/* The version of this header. gamhilon_version tells that of the library. */
+/* The version of this header. gamhilon_version gives that of the library. */
 #define GAMHILON_VERSION "0.2.0"
 #define GAMHILON_VERSION_MAJOR 0
 #define GAMHILON_VERSION_MINOR 2
@@ -32,12 +32,12 @@ extern "C" {
 /* The call did what it was asked for. */
 #define GAMHILON_OK 0u
 
-/* The document isn't JSON, or not of the form of a document. gamhilon_find_fault tells where it is
+/* The document isn't JSON, or not of the form of a document. gamhilon_find_fault finds where it is
  * wrong, and gamhilon_find_driven_fault where a driven document is. Of gamhilon_cite: a text is not
- * of its form, and gamhilon_find_cite_fault tells where. */
+ * of its form, and gamhilon_find_cite_fault finds where. */
 #define GAMHILON_DOCUMENT_REFUSED 2u
 
-/* The macros of a style call each other in a ring. gamhilon_find_ring tells where. */
+/* The macros of a style call each other in a ring. gamhilon_find_ring finds where. */
 #define GAMHILON_MACRO_RING 3u
 
 /* The citation numbers don't fit 64 bits. */
@@ -50,19 +50,19 @@ extern "C" {
 /* The text has `*needed` bytes, which is more than the buffer has. */
 #define GAMHILON_BUFFER_TOO_SMALL 6u
 
-/* The elements of a layout nest deeper than gamhilon_check_limits was told. */
+/* The elements of a layout nest deeper than gamhilon_check_limits allows. */
 #define GAMHILON_TOO_DEEP 7u
 
-/* A layout has more elements than gamhilon_check_limits was told. */
+/* A layout has more elements than gamhilon_check_limits allows. */
 #define GAMHILON_TOO_MANY_ELEMENTS 8u
 
 /* 9 was a status of earlier versions, and is not used again. */
 
 /* A style file takes more steps, or writes more, than its limits let it. gamhilon_find_cite_fault
- * tells the line, but where it does so only through what the items have. */
+ * gives the line, but where it does so only through what the items have. */
 #define GAMHILON_LIMIT_EXCEEDED 10u
 
-/* A text for people that tells what a status means. It has no line feed, ends with a NUL, and is
+/* A text for people that says what a status means. It has no line feed, ends with a NUL, and is
  * never freed. */
 const char *gamhilon_status_text(uint32_t status);
 
@@ -127,7 +127,7 @@ uint32_t gamhilon_render_json(const uint8_t *document, size_t document_length,
  * Both calls take five texts in UTF-8, of which no file is opened:
  *
  * - `style`: a style file of CSL 1.0.2 that stands for itself. One that stands for another style is
- *   refused, and gamhilon_find_cite_fault tells which that is.
+ *   refused, and gamhilon_find_cite_fault gives the link to that one.
  * - `locales`: a JSON list of the texts of locale files. Words are looked for in those of the
  *   dialect, of the language's primary dialect and of American English (en-US), which is built in;
  *   the others aren't used. An empty text is an empty list.
@@ -149,9 +149,9 @@ uint32_t gamhilon_render_json(const uint8_t *document, size_t document_length,
  * style file whose elements nest as deep as is read, 256, takes 1.7 MiB, and macros that call one
  * another 1,000 deep 1 MiB. */
 
-/* Writes the citations and the bibliography, as JSON (docs/ANSWER.md). A style of notes tells the
- * number of the note of each citation. Quotes have their marks as text. Of what an element was
- * written for (`meta`) cites alone are told: each by its place in the citation that was handed in.
+/* Writes the citations and the bibliography, as JSON (docs/ANSWER.md). In a style of notes each
+ * citation has the number of its note. Quotes have their marks as text. Of what an element was
+ * written for (`meta`) only cites are named: each by its place in the citation that was handed in.
  *
  * In another form the text has a line for each citation and then, where the style has a
  * bibliography, an empty line and a line for each of its items. No text has a line feed in it.
@@ -168,7 +168,7 @@ uint32_t gamhilon_cite(const uint8_t *style, size_t style_length,
 
 /* Finds what is wrong and odd in the texts: puts a JSON object into the buffer, as
  *
- *     {"fault":{"column":3,"file":"style","line":7,"message":".."},"warnings":[]}
+ *     {"fault":{"column":3,"file":"style","line":7,"message":".."},"faults":[..],"warnings":[]}
  *     {"warnings":[{"file":"items","message":"unknown key, left out; is it `title`?",
  *         "pointer":"/0/titel"}]}
  *
@@ -176,8 +176,10 @@ uint32_t gamhilon_cite(const uint8_t *style, size_t style_length,
  * that is wrong; texts are read in the order options, style, locales, items, citations. It is there
  * also where the style exceeds its limits whatever the items have: then it names the macro, the
  * citation or the bibliography by its line, and gamhilon_cite ends with GAMHILON_LIMIT_EXCEEDED.
+ * `faults` is there where the style is no style by what stands at a line: the list of all that is
+ * wrong with it, 20 at most, in the order of their places.
  * `warnings` is the list of what is read otherwise than it stands in the texts, up to the fault;
- * where there is none, the list tells all.
+ * where there is none, the list has all.
  *
  * `file` is the text: `style`, `locales`, `locales/0` for the first of the locale files, `items`,
  * `citations` or `options`. The place in it is a `line` and a `column`, both from 1, or the JSON

@@ -239,7 +239,7 @@ def try_much_work(folder, layouts):
     rows.append((put(folder, 'many macros', layouts.many_macros(10000, ELEMENTS // 2)), 2, ELEMENTS,
                  0))
     seconds = hold_limits(folder, STACK_TOLD, rows)
-    hold(seconds < 5, f'limits of macros that double and of many macros: {seconds:.2f} s')
+    hold(seconds < 30, f'limits of macros that double and of many macros: {seconds:.2f} s')
 
 
 def try_allowed(folder, rows):

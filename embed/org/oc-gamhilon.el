@@ -17,8 +17,8 @@
 ;;     #+print_bibliography:
 ;;
 ;; and in the init file (require 'oc-gamhilon).  A style is a name or the path
-;; of a file (docs/STYLES.md); files of references are those that the program
-;; reads.  What it writes is HTML, LaTeX or text, as the back-end wants it.
+;; of a file (docs/STYLES.md); files of references are those that the Python
+;; package reads.  It writes HTML, LaTeX or text, as the back-end wants it.
 ;;
 ;; Styles of citations: none, `text' (t), `author' (a), `noauthor' (na) and
 ;; `nocite' (n).
@@ -35,7 +35,7 @@
   :group 'org-cite)
 
 (defcustom org-cite-gamhilon-program '("python3" "-m" "gamhilon")
-  "The program that writes citations, and its first arguments."
+  "The command of the Python package, which writes citations."
   :type '(repeat string))
 
 (defcustom org-cite-gamhilon-style "author-date"

@@ -1,16 +1,18 @@
-"""Builds the wheel of the package: its files, the shared library, the styles of examples/styles,
-and what tells its licence and of what it was built.
+"""Builds the wheel of the package: its files, the shared library, the program `gamhilon`, the
+styles of examples/styles, its licence, and a note of the build.
 
 It is the build backend of pyproject.toml (PEP 517), which has all that it says of the package but
 the version, and on Python 3.11 or later it needs nothing from a package registry. The library and
 the note of its build are ../out/libgamhilon.so and ../out/gamhilon_build.json, which ../build.py
-makes.
+makes; the program is that of ../../crates/gamhilon, as `rt run` or `rt ci` built it. A wheel is
+made without the program where that isn't built, and then installs no command `gamhilon`.
 """
 import base64
 import hashlib
 import os
 import platform
 import re
+import stat
 import zipfile
 
 try:
@@ -23,9 +25,12 @@ ROOT = os.path.normpath(f'{HERE}/../..')
 OUT = os.path.normpath(f'{HERE}/../out')
 SOURCE = f'{HERE}/src'
 STYLES = f'{ROOT}/examples/styles'
+PROGRAM = f'{ROOT}/crates/gamhilon/out/gamhilon'
 NAME = 'gamhilon'
 SUFFIXES = ('.py', '.css', '.sty', '.typed')
 LICENSES = ('LICENSE', 'LICENSE-MIT', 'LICENSE-APACHE')
+LEFT_OUT = (f'gamhilon_wheel: left out: the program {NAME}, which is not built; the wheel installs '
+            'no command of this name')
 WHEEL = """Wheel-Version: 1.0
 Generator: gamhilon_wheel
 Root-Is-Purelib: false
@@ -74,16 +79,28 @@ def entry_points():
     return '\n'.join(texts).encode()
 
 
-def glibc_of(library):
-    """The lowest glibc that has all that a library asks for, as 2 and a number."""
-    asked = re.findall(rb'\bGLIBC_2\.(\d+)', read(library))
+def glibc_of(binary):
+    """The lowest glibc that has all that a library or a program asks for: the number after 2."""
+    asked = re.findall(rb'\bGLIBC_2\.(\d+)', read(binary))
     return max(map(int, asked), default=17)
 
 
 def tag():
     """The wheel's tag: any Python 3, and Linux on this kind of processor with a glibc that has what
-    the library asks for."""
-    return f'py3-none-manylinux_2_{max(glibc_of(f"{OUT}/libgamhilon.so"), 17)}_{platform.machine()}'
+    the library and the program ask for."""
+    binaries = [f'{OUT}/libgamhilon.so', *([PROGRAM] if has_program() else [])]
+    glibc = max(17, *map(glibc_of, binaries))
+    return f'py3-none-manylinux_2_{glibc}_{platform.machine()}'
+
+
+def has_program():
+    """Whether the program is built."""
+    return os.path.exists(PROGRAM)
+
+
+def place_of_program():
+    """The path of the program in the wheel: installers put it on PATH from there (PEP 427)."""
+    return f'{NAME}-{version()}.data/scripts/{NAME}'
 
 
 def files():
@@ -103,6 +120,8 @@ def files():
     found[f'{NAME}/org/oc-gamhilon.el'] = read(f'{ROOT}/embed/org/oc-gamhilon.el')
     found[f'{NAME}/libgamhilon.so'] = read(library)
     found[f'{NAME}/gamhilon_build.json'] = read(note) if os.path.exists(note) else b'{}\n'
+    if has_program():
+        found[place_of_program()] = read(PROGRAM)
     info = f'{NAME}-{version()}.dist-info'
     found[f'{info}/METADATA'] = metadata()
     found[f'{info}/WHEEL'] = WHEEL.format(tag=tag()).encode()
@@ -124,15 +143,25 @@ def checksum(data):
     return base64.urlsafe_b64encode(hashlib.sha256(data).digest()).rstrip(b'=').decode()
 
 
+def entry_of(name):
+    """What the archive says of a file: who may do what with it, and a fixed date, so that one
+    library and one program make one wheel."""
+    entry = zipfile.ZipInfo(name, (2026, 1, 1, 0, 0, 0))
+    rights = 0o755 if name == place_of_program() else 0o644
+    entry.external_attr = (stat.S_IFREG | rights) << 16
+    return entry
+
+
 def build_wheel(wheel_directory, config_settings=None, metadata_directory=None):
-    """Writes the wheel into the folder, and gives its name (PEP 517, PEP 427)."""
+    """Writes the wheel into the folder, and gives its name (PEP 517, PEP 427). Prints a line where
+    it is without the program."""
     found = files()
+    if not has_program():
+        print(LEFT_OUT, flush=True)
     found[f'{NAME}-{version()}.dist-info/RECORD'] = record(found)
     wheel = f'{NAME}-{version()}-{tag()}.whl'
     with zipfile.ZipFile(os.path.join(wheel_directory, wheel), 'w',
                          zipfile.ZIP_DEFLATED) as archive:
         for name in sorted(found):
-            # a fixed date, so that one library makes one wheel
-            archive.writestr(zipfile.ZipInfo(name, (2026, 1, 1, 0, 0, 0)), found[name],
-                             zipfile.ZIP_DEFLATED)
+            archive.writestr(entry_of(name), found[name], zipfile.ZIP_DEFLATED)
     return wheel

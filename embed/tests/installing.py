@@ -120,13 +120,29 @@ def try_wheel(folder):
     if how is None:
         return
     _, text = first_example()
-    hold(ran('gamhilon', 'render', f'{ROOT}/examples/first.json', **how).stdout == text,
-         'gamhilon render, from the wheel')
+    try_program_of_the_wheel(f'{folder}/venv/bin/gamhilon', how)
+    hold(ran('python', '-m', 'gamhilon', 'render', f'{ROOT}/examples/first.json',
+             **how).stdout == text, 'python3 -m gamhilon render, from the wheel')
     told = ran('python', '-m', 'gamhilon', '--version', **how).stdout.decode()
     hold(all(str(value or 'unknown') in told for value in note().values()),
          f'the version of the wheel: {told}')
     if has_tool('pandoc', 'the filter from the wheel'):
         try_filter(folder, wheels, how)
+
+
+def try_program_of_the_wheel(path, how):
+    """The command `gamhilon` that the wheel puts into an environment: the program, or none."""
+    if 'gamhilon' in release.missing_programs():
+        left_out.append('the program of the wheel: there is no built gamhilon')
+        hold(not os.path.lexists(path), 'a wheel without the program installs no gamhilon')
+        return
+    program = release.program('gamhilon')
+    hold(read(path) == read(program), 'the gamhilon of the wheel is the program')
+    _, text = first_example()
+    for words, wanted in ((['--version'], ran(program, '--version').stdout),
+                          (['render', f'{ROOT}/examples/first.json'], text)):
+        hold(ran('gamhilon', *words, **how).stdout == wanted,
+             f'gamhilon {words[0]}, from the wheel')
 
 
 def installed(place, wheels, *words):

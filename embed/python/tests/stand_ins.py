@@ -1,5 +1,5 @@
 """What stands in for the shared library: one that is made up, a made-up style, and the model of the
-driver."""
+driver; and what stands in for the program `gamhilon`."""
 import importlib
 import json
 import os
@@ -15,6 +15,12 @@ def of_model(name):
         return importlib.import_module(name)
     finally:
         sys.path.remove(MODEL)
+
+
+def put_program(path):
+    """Puts an executable there that stands in for the program `gamhilon`: it prints its words."""
+    path.write_text('#!/bin/sh\necho "the program: $*"\n')
+    path.chmod(0o755)
 
 
 class MadeUpLibrary:

@@ -728,4 +728,4 @@ def test_many_entries_do_not_take_long(pybtex):
     began = time.process_time()
     read = references.loads(''.join(entry.format(number)
                                     for number in range(3000)) + '@book{broken, title = {')
-    assert len(read.items) == 3001 and time.process_time() - began < 10
+    assert len(read.items) == 3001 and time.process_time() - began < 60

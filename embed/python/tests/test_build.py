@@ -10,10 +10,12 @@ import subprocess
 import sys
 import tarfile
 import zipfile
+from pathlib import Path
 from xml.etree import ElementTree
 
 import pytest
 from conftest import PROJECT, ROOT, heed_interrupts
+from stand_ins import put_program
 
 pytestmark = pytest.mark.skipif(not all(map(shutil.which, ('cc', 'objcopy', 'ar', 'nm'))),
                                 reason='there is no C compiler')
@@ -106,6 +108,14 @@ def build_of(root, monkeypatch):
     return module
 
 
+def program_of_the_wheel():
+    """The program in the wheel of out/, or None where it has none."""
+    name, = [name for name in os.listdir('embed/out') if name.endswith('.whl')]
+    with zipfile.ZipFile(f'embed/out/{name}') as archive:
+        place = 'gamhilon-0.2.0.data/scripts/gamhilon'
+        return archive.read(place) if place in archive.namelist() else None
+
+
 def test_it_tells_what_it_does_and_how_far_it_is(tree, monkeypatch, capfd):
     build = build_of(tree(0.5, 1.0), monkeypatch)
     monkeypatch.setattr(build, 'PAUSE', 0.3)
@@ -113,6 +123,8 @@ def test_it_tells_what_it_does_and_how_far_it_is(tree, monkeypatch, capfd):
     lines = capfd.readouterr().out.splitlines()
     assert lines[0] == ('build.py: rt lib proves and compiles crates/gamhilon_c, over 2 libraries, '
                         'and keeps what it proved; from nothing that takes half an hour to an hour')
+    assert 'build.py: rt run proves and builds crates/gamhilon' in lines
+    assert not any('cite_run' in line for line in lines)
     told = [line for line in lines if 'libraries stand' in line]
     assert re.fullmatch('build.py: 0 min [0-9]+ s: 0 of 2 libraries stand', told[0])
     assert re.fullmatch('build.py: 0 min [0-9]+ s: 1 of 2 libraries stand', told[-1])
@@ -122,6 +134,10 @@ def test_it_tells_what_it_does_and_how_far_it_is(tree, monkeypatch, capfd):
     assert sorted(name for name in os.listdir('embed/out') if not name.endswith('.whl')) == [
         'gamhilon.h', 'gamhilon.pc', 'gamhilon_build.json', 'libgamhilon.a', 'libgamhilon.so',
         'libgamhilon.so.0']
+    # (the stand-in of the toolchain builds it as that)
+    with open('/bin/cat', 'rb') as file:
+        assert program_of_the_wheel() == file.read()
+
 
 
 def test_a_proof_that_fails_is_told_by_its_status(tree, monkeypatch):
@@ -131,18 +147,25 @@ def test_a_proof_that_fails_is_told_by_its_status(tree, monkeypatch):
     assert not os.path.exists('embed/out')
 
 
-def test_the_wheel_alone_is_made_of_what_was_built(tree, monkeypatch, capfd):
-    root = tree()
-    build = build_of(root, monkeypatch)
+def test_the_wheel_alone_is_made_of_what_was_built(tree, tmp_path, monkeypatch, capfd):
+    """Of the library, which may be that of another machine, and the program, if it is there."""
+    build = build_of(tree(), monkeypatch)
     with pytest.raises(SystemExit,
                        match='^build.py: no wheel: .*libgamhilon.so is not there: build it first'):
         build.main(['--wheel-only'])
-    build.main([])
+    build.main(['--archive', str(tmp_path / 'a.a'), '--wheel'])
+    told = capfd.readouterr().out.splitlines()
+    assert told[2:-1] == ['gamhilon_wheel: left out: the program gamhilon, which is not built; the '
+                          'wheel installs no command of this name']
+    assert told[-1].startswith('build.py: built embed/out/gamhilon-0.2.0-py3-none-')
+    assert program_of_the_wheel() is None and not os.path.exists('crates/gamhilon/out')
     shutil.rmtree('crates')
+    os.makedirs('crates/gamhilon/out')
+    put_program(Path('crates/gamhilon/out/gamhilon'))
     os.remove('embed/out/gamhilon_build.json')
-    capfd.readouterr()
     build.main(['--wheel-only'])
     assert capfd.readouterr().out.startswith('build.py: built embed/out/gamhilon-')
+    assert b'the program' in program_of_the_wheel()
     name, = [name for name in os.listdir('embed/out') if name.endswith('.whl')]
     with zipfile.ZipFile(f'embed/out/{name}') as archive:
         assert archive.read('gamhilon/gamhilon_build.json') == b'{}\n'

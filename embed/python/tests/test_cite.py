@@ -194,6 +194,20 @@ def test_a_language_and_its_locale(cites):
         assert len(answer.warnings) == warnings
 
 
+def test_all_faults_of_a_style(cites):
+    style = STYLE.replace('<text variable="title"/><text', '<text variable="issued"/><txt/><text')
+    style = style.replace('hanging-indent="true"', 'hanging-indent="yes"')
+    texts = _library.CiteTexts(style.encode(), b'', b'[]', b'[]', b'')
+    found = json.loads(_library.library().find_cite_fault(texts))
+    assert [(it['line'], it['column'], it['message']) for it in found['faults']] == [
+        (4, 7, 'found `issued`, wanted a text or number variable'),
+        (4, 26, 'found `txt`, wanted an element that `layout` may contain, perhaps `text`'),
+        (5, 15, 'found `yes`, wanted a value of `hanging-indent`')]
+    assert found['fault'] == found['faults'][0]
+    texts = _library.CiteTexts(STYLE.encode(), b'', b'{', b'[]', b'')
+    assert 'faults' not in json.loads(_library.library().find_cite_fault(texts))
+
+
 def test_a_dependent_style_tells_its_parent(cites):
     style = ('<style xmlns="http://purl.org/net/xbiblio/csl" version="1.0" default-locale="fr-FR">'
              '<info><title>T</title><id>T</id>'

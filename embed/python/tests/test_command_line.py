@@ -1,4 +1,4 @@
-"""python -m gamhilon, as a process."""
+"""python3 -m gamhilon, as a process."""
 import json
 import os
 import pty
@@ -26,7 +26,8 @@ def run(*words, given=None, **how):
 
 def test_no_words_is_not_a_command_line():
     status, out, error = run()
-    assert status == 64 and out == '' and 'usage: gamhilon' in error and 'exit status' in error
+    assert status == 64 and out == '' and 'exit status' in error
+    assert 'usage: python3 -m gamhilon ' in error
 
 
 @pytest.mark.parametrize('words', [
@@ -209,7 +210,8 @@ def test_a_reader_that_has_read_enough_sees_no_traceback(module, words):
                                      'entries', 'styles', 'sample', 'diff', 'test', 'css'])
 def test_the_help_of_each_command_begins_with_what_it_is(command):
     status, out, error = run(command, '--help')
-    assert (status, error) == (0, '') and out.startswith(f'usage: gamhilon {command} ')
+    assert (status, error) == (0, '')
+    assert out.startswith(f'usage: python3 -m gamhilon {command} ')
     described = out.partition('\n\n')[2].split('\n\n')[0]
     assert described[:1].isupper() and described.endswith('.')
     assert command in run('--help')[1]

@@ -1,7 +1,8 @@
 """The wheel in a fresh environment, without a network: the first lines of each guide, as they stand
 there. What a guide needs beside the package is that of Debian, and the guide is left out where that
-isn't installed. (The built library is that of the wheel; where there is none, one that is no
-library shows that the rest is installed.)"""
+isn't installed. (The wheel has the built library and the built program. Where there is no library,
+one that is none shows that the rest is installed; where there is no program, an executable stands
+in for it.)"""
 import importlib.util
 import json
 import os
@@ -13,6 +14,7 @@ from types import SimpleNamespace
 
 import pytest
 from conftest import PROJECT, ROOT
+from stand_ins import put_program
 
 from gamhilon import _library
 
@@ -37,10 +39,15 @@ DOE = [{'id': 'doe99', 'type': 'book', 'title': 'On Order', 'author': [{'family'
         'issued': {'date-parts': [[2000]]}}]
 
 
+def open_guide(guide):
+    """The text of a guide."""
+    with open(f'{GUIDES}/{guide}.md', encoding='utf-8') as file:
+        return file.read()
+
+
 def blocks(guide, language):
     """The blocks of a language in a guide; those without one are indented."""
-    with open(f'{GUIDES}/{guide}.md', encoding='utf-8') as file:
-        text = file.read()
+    text = open_guide(guide)
     if language:
         return re.findall(rf'```{language}\n(.*?)```', text, re.DOTALL)
     return [re.sub(r'^    ', '', block, flags=re.MULTILINE).lstrip('\n')
@@ -60,11 +67,13 @@ def environment(tmp_path_factory):
         shutil.copy(_library.path(), out / 'libgamhilon.so')
     else:
         (out / 'libgamhilon.so').write_bytes(b'no library')
-    before, gamhilon_wheel.OUT = gamhilon_wheel.OUT, str(out)
-    try:
+    with pytest.MonkeyPatch.context() as patch:
+        patch.setattr(gamhilon_wheel, 'OUT', str(out))
+        if not os.path.exists(gamhilon_wheel.PROGRAM):
+            put_program(out / 'gamhilon')
+            patch.setattr(gamhilon_wheel, 'PROGRAM', str(out / 'gamhilon'))
+        program = gamhilon_wheel.PROGRAM
         wheel = folder / gamhilon_wheel.build_wheel(str(folder))
-    finally:
-        gamhilon_wheel.OUT = before
     place = folder / 'environment'
     subprocess.run([sys.executable, '-m', 'venv', '--system-site-packages', '--without-pip',
                     str(place)], check=True)
@@ -81,7 +90,7 @@ def environment(tmp_path_factory):
                               env={**variables, **more})
         assert done.returncode == 0, (words, done.stdout, done.stderr)
         return done.stdout
-    return SimpleNamespace(run=run, python=python, is_built=is_built)
+    return SimpleNamespace(run=run, python=python, is_built=is_built, program=program, place=place)
 
 
 @pytest.fixture
@@ -117,14 +126,26 @@ def test_all_that_the_wheel_has_is_installed(environment):
                            'import gamhilon, sys; print(gamhilon.__file__); '
                            'print(sys.prefix != sys.base_prefix)').split('\n')
     assert f'{os.sep}environment{os.sep}' in told[0] and told[1] == 'True'
-    assert environment.run('gamhilon', 'styles').split() == ['author-date', 'labels', 'notes',
-                                                             'numeric']
-    assert 'csl-bib-body' in environment.run('gamhilon', 'css')
-    assert os.path.isfile(os.path.join(environment.run('gamhilon', 'org').strip(),
-                                       'oc-gamhilon.el'))
-    assert os.path.isfile(os.path.join(environment.run('gamhilon', 'latex', '--where').strip(),
-                                       'gamhilon.sty'))
-    assert environment.run('gamhilon', '--help').startswith('usage: gamhilon')
+
+    def command(*words):
+        return environment.run('python3', '-m', 'gamhilon', *words).strip()
+    assert command('styles').split() == ['author-date', 'labels', 'notes', 'numeric']
+    assert 'csl-bib-body' in command('css')
+    assert os.path.isfile(os.path.join(command('org'), 'oc-gamhilon.el'))
+    assert os.path.isfile(os.path.join(command('latex', '--where'), 'gamhilon.sty'))
+    assert command('--help').startswith('usage: python3 -m gamhilon ')
+
+
+def test_the_command_is_the_program(environment):
+    """Byte for byte, so that it has the same options, forms, messages and statuses."""
+    installed = environment.place / 'bin/gamhilon'
+    with open(environment.program, 'rb') as file:
+        assert installed.read_bytes() == file.read()
+    assert os.access(installed, os.X_OK)
+    assert environment.run('gamhilon', '--version') == environment.run(environment.program,
+                                                                       '--version') != ''
+    assert sorted(path.name for path in installed.parent.glob('gamhilon*')) == ['gamhilon',
+                                                                               'gamhilon-pandoc']
 
 
 def test_the_guide_of_markdown(guide, published):
@@ -184,7 +205,8 @@ def test_the_guide_of_python(guide):
 
 
 def test_the_guide_of_styles(guide):
-    (guide.folder / 'mine.csl').write_text(guide.run('gamhilon', 'styles', 'author-date'))
+    (guide.folder / 'mine.csl').write_text(guide.run(guide.python, '-m', 'gamhilon', 'styles',
+                                                     'author-date'))
     shutil.copy(guide.folder / 'mine.csl', guide.folder / 'before.csl')
     ran = []
     for line in blocks('STYLES', '')[0].split('\n'):
@@ -207,8 +229,10 @@ def test_the_filter_of_pandoc(guide):
 def test_the_guide_of_latex(guide, published):
     has_command('pdflatex', 'texlive-latex-base')
     (guide.folder / 'paper.tex').write_text(with_library(blocks('LATEX', 'latex')[0]))
-    where = guide.run('gamhilon', 'latex', '--where').strip()
-    for command in (['pdflatex', '-interaction=batchmode', 'paper'], ['gamhilon', 'latex', 'paper'],
+    own = ['python3', '-m', 'gamhilon', 'latex']
+    assert f'    {" ".join(own)} paper ' in open_guide('LATEX')
+    where = guide.run(*own, '--where').strip()
+    for command in (['pdflatex', '-interaction=batchmode', 'paper'], [*own, 'paper'],
                     ['pdflatex', '-interaction=batchmode', 'paper']):
         guide.run(*command, TEXINPUTS=f'{where}:')
     assert 'Darwin' in (guide.folder / 'paper.bbl').read_text()

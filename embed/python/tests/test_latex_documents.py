@@ -1,5 +1,5 @@
-"""LaTeX documents: what gamhilon.sty writes into the .aux file, what `gamhilon latex` makes of it,
-and what LaTeX then prints."""
+"""LaTeX documents: what gamhilon.sty writes into the .aux file, what the command `latex` makes of
+it, and what LaTeX then prints."""
 import json
 import os
 import re

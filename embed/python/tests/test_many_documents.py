@@ -110,7 +110,7 @@ def folder(tmp_path):
 
 @pytest.fixture
 def render(environment):
-    """Runs `gamhilon render`."""
+    """Runs `python3 -m gamhilon render`."""
     def run(*words):
         done = subprocess.run([sys.executable, '-m', 'gamhilon', 'render', *map(str, words)],
                               env=environment,

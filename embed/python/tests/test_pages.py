@@ -95,7 +95,7 @@ def test_a_long_text_of_addresses_does_not_take_long():
     began = time.process_time()
     for text in texts:
         assert gamhilon.bibliography_to_html(bibliography([node(text)]))
-    assert time.process_time() - began < 5
+    assert time.process_time() - began < 20
 
 
 # The style sheet

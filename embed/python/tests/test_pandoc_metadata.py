@@ -108,7 +108,7 @@ def test_what_is_not_kept_of_files_is_told_where_the_style_would_have_shown_it(o
     broken = 'a.bib: syntax error in line 3: premature end of file'
 
     def not_kept(fields):
-        return f'a.bib: not kept: {fields} (gamhilon check a.bib tells more)'
+        return f'a.bib: not kept: {fields} (python3 -m gamhilon check a.bib tells more)'
 
     out, said, status = of_file('bibliography: a.bib', '[@b]')
     assert status == 0 and out.startswith('(B 1999)') and told(said) == [broken]

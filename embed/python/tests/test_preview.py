@@ -1,4 +1,4 @@
-"""The page of a style that follows its file: `python -m gamhilon preview`."""
+"""The page of a style that follows its file: `python3 -m gamhilon preview`."""
 import http.client
 import os
 import re

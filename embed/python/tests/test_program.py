@@ -1,4 +1,4 @@
-"""The commands of this package beside the program of that name (crates/gamhilon, docs/WRITER.md),
+"""The commands of `python3 -m gamhilon` beside those of the program `gamhilon` (docs/WRITER.md),
 where that is built: what both write is the same, and so are their exit statuses."""
 import json
 import os

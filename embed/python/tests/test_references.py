@@ -134,7 +134,7 @@ def test_whatever_stands_in_a_file_ends_in_items_or_in_an_error_of_ours(pybtex, 
         except references.ReferencesError:
             continue
         finally:
-            assert time.process_time() - began < 2
+            assert time.process_time() - began < 10
         assert all(isinstance(item['id'], str) and item['type'] for item in read.items)
         assert all(map(str, read.losses)) and all(read.problems)
         csl_json.entries(read.items)

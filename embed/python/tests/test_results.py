@@ -42,6 +42,12 @@ def test_texts_and_pages(made_up_style):
     assert rendered.bibliography.to_html() in page
 
 
+def test_texts_are_on_a_line():
+    item = gamhilon.Item('a', [{'text': 'On\nOrder\0s'}], {'text': '1.\t'})
+    listed = csl.results.RenderedBibliography(gamhilon.Bibliography([item], False, 1, 1))
+    assert str(listed) == '1. On Orders' and listed['a'] == '1. On Orders'
+
+
 def test_results_travel(made_up_style):
     rendered = csl.render('author-date', REFERENCES, CITES[:1])
     for part in (rendered, rendered.citations[0], rendered.bibliography):

@@ -1,15 +1,18 @@
-"""The wheel, from a library that stands in for the shared one."""
+"""The wheel, from a library and a program that stand in for the built ones."""
 import base64
+import configparser
 import email
 import hashlib
 import json
 import shutil
+import stat
 import subprocess
 import sys
 import zipfile
 
 import pytest
 from conftest import PROJECT, ROOT
+from stand_ins import put_program
 
 sys.path.insert(0, PROJECT)
 import gamhilon_wheel  # noqa: E402
@@ -20,7 +23,7 @@ pytestmark = pytest.mark.skipif(not shutil.which('cc') or not shutil.which('objd
 
 @pytest.fixture
 def wheel(tmp_path, monkeypatch):
-    """A wheel with a library that calls a function of glibc 2.34, and a note."""
+    """A wheel with a library that calls a function of glibc 2.34, a program, and a note."""
     out = tmp_path / 'out'
     out.mkdir()
     (tmp_path / 'a.c').write_text('#include <pthread.h>\n'
@@ -28,12 +31,22 @@ def wheel(tmp_path, monkeypatch):
     subprocess.run(['cc', '-shared', '-fPIC', '-o', str(out / 'libgamhilon.so'),
                     str(tmp_path / 'a.c')], check=True)
     (out / 'gamhilon_build.json').write_text(json.dumps({'commit': 'c0ffee', 'toolchain': 'kit-1'}))
+    put_program(tmp_path / 'gamhilon')
     monkeypatch.setattr(gamhilon_wheel, 'OUT', str(out))
+    monkeypatch.setattr(gamhilon_wheel, 'PROGRAM', str(tmp_path / 'gamhilon'))
     name = gamhilon_wheel.build_wheel(str(tmp_path))
     return tmp_path / name
 
 
-def test_its_tag_tells_the_glibc_that_the_library_asks_for(wheel):
+def commands_of(archive):
+    """The names of the console scripts of a wheel."""
+    info = f'gamhilon-{gamhilon_wheel.version()}.dist-info'
+    points = configparser.ConfigParser()
+    points.read_string(archive.read(f'{info}/entry_points.txt').decode())
+    return list(points['console_scripts'])
+
+
+def test_its_tag_tells_the_glibc_that_the_library_and_the_program_ask_for(wheel):
     version, python, abi, platform = wheel.name[:-len('.whl')].split('-')[1:]
     asked = subprocess.run(['objdump', '-T', str(wheel.parent / 'out' / 'libgamhilon.so')],
                            capture_output=True,
@@ -43,6 +56,32 @@ def test_its_tag_tells_the_glibc_that_the_library_asks_for(wheel):
     with zipfile.ZipFile(wheel) as archive:
         told = archive.read(f'gamhilon-{version}.dist-info/WHEEL').decode()
         assert f'Tag: py3-none-{platform}\n' in told
+    (wheel.parent / 'gamhilon').write_bytes(b'GLIBC_2.17\0GLIBC_2.99\0')
+    assert gamhilon_wheel.tag().startswith('py3-none-manylinux_2_99_')
+
+
+def test_it_has_the_program_and_no_other_command_of_that_name(wheel):
+    place = f'gamhilon-{gamhilon_wheel.version()}.data/scripts/gamhilon'
+    with zipfile.ZipFile(wheel) as archive:
+        assert archive.read(place) == (wheel.parent / 'gamhilon').read_bytes()
+        rights = {entry.filename: entry.external_attr >> 16 for entry in archive.infolist()}
+        assert rights.pop(place) == stat.S_IFREG | 0o755
+        assert set(rights.values()) == {stat.S_IFREG | 0o644}
+        record, = [name for name in archive.namelist() if name.endswith('.dist-info/RECORD')]
+        assert f'\n{place},sha256=' in archive.read(record).decode()
+        assert commands_of(archive) == ['gamhilon-pandoc']
+
+
+def test_without_the_program_it_has_no_command_of_that_name(wheel, tmp_path, capsys):
+    (tmp_path / 'gamhilon').unlink()
+    capsys.readouterr()
+    name = gamhilon_wheel.build_wheel(str(tmp_path))
+    assert capsys.readouterr().out == (
+        'gamhilon_wheel: left out: the program gamhilon, which is not built; the wheel installs no '
+        'command of this name\n')
+    with zipfile.ZipFile(tmp_path / name) as archive:
+        assert not any('.data/' in path for path in archive.namelist())
+        assert commands_of(archive) == ['gamhilon-pandoc']
 
 
 def test_it_has_what_a_user_needs(wheel):
@@ -89,7 +128,7 @@ def test_it_says_what_pyproject_says(wheel):
     assert said.get_payload().startswith('# Gamhilon for Python\n\nCitations and')
 
 
-def test_one_library_makes_one_wheel(wheel, tmp_path):
+def test_one_library_and_one_program_make_one_wheel(wheel, tmp_path):
     other = tmp_path / 'other'
     other.mkdir()
     gamhilon_wheel.build_wheel(str(other))

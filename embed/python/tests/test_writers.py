@@ -315,6 +315,14 @@ def test_displays_stand_where_html_lets_them():
             '<div class="csl-right-inline"><div class="csl-block">a</div>') in written
 
 
+def test_a_space_stands_beside_what_is_set_off_in_a_line():
+    tree = [{'display': 'left-margin', 'children': [node('[1]')]},
+            {'display': 'right-inline', 'children': [node('A', font_style='italic')]},
+            {'display': 'block', 'children': [node(' b')]}, node('c')]
+    assert gamhilon.to_markdown(tree) == '\\[1\\] *A* b c'
+    assert gamhilon.to_latex(tree) == r'{[}1{]} \textit{A}\par  b\par c'
+
+
 def test_nothing_stands_beside_a_first_field_with_nothing_behind_it():
     item = gamhilon.Item('k', [], {'children': [node('A.')]})
     written = gamhilon.bibliography_to_html(gamhilon.Bibliography([item], False, 1, 1))

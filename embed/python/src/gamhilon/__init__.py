@@ -18,8 +18,8 @@ What is there:
 - `to_html`, `to_markdown` and `to_latex` write trees of an answer, `style_sheet` lays out lists.
 
 Each error that the package raises by itself is a `GamhilonError`, but for the TypeError of wrong
-arguments. What is odd is in the `warnings` of what a call gives. `python -m gamhilon` does the same
-from the command line. Calls may be made from any number of threads and processes at once.
+arguments. What is odd is in the `warnings` of what a call gives. `python3 -m gamhilon` does the
+same from the command line. Calls may be made from any number of threads and processes at once.
 """
 from __future__ import annotations
 

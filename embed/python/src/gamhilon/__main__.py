@@ -1,4 +1,4 @@
-"""python -m gamhilon: citations and reference lists in styles, documents answered, files checked,
+"""python3 -m gamhilon: citations and reference lists in styles, documents answered, files checked,
 and references read."""
 from __future__ import annotations
 
@@ -12,8 +12,8 @@ from . import (Limits, _console, _faults, csl, csl_json, pages, references, styl
                version)
 from ._check_command import check_command, refusal
 from ._cite_command import Asked, bibliography_command, cite_command
-from ._console import (INPUT_OR_OUTPUT_FAILED, NOT_OF_ITS_FORM, json_text, name_of, progress, read,
-                       say, write)
+from ._console import (COMMAND, INPUT_OR_OUTPUT_FAILED, NOT_OF_ITS_FORM, json_text, name_of,
+                       progress, read, say, write)
 from ._latex_command import add_latex, latex_command
 from ._limits import DEFAULT_DEPTH, DEFAULT_ELEMENTS, UNLIMITED
 from ._markdown_command import add_markdown, markdown_command
@@ -25,11 +25,13 @@ from .errors import LibraryMissing, Refused
 BAD_COMMAND_LINE, NO_LIBRARY = 64, 69
 ENDINGS = """\
 examples:
-  gamhilon bibliography --style apa library.bib         what a file of references lists
-  gamhilon markdown page.md --bibliography library.bib  a page with its citations written
-  gamhilon latex paper                                  paper.bbl, of paper.aux
-  gamhilon styles --all                                 the names of styles
-  gamhilon COMMAND --help                               what a command takes
+  python3 -m gamhilon bibliography --style apa library.bib
+      what a file of references lists
+  python3 -m gamhilon markdown page.md --bibliography library.bib
+      a page with its citations written
+  python3 -m gamhilon latex paper      paper.bbl, of paper.aux
+  python3 -m gamhilon styles --all     the names of styles
+  python3 -m gamhilon COMMAND --help   what a command takes
 
 exit status: 0 done; 1 reading or writing failed; 2 document refused, or a file
 that isn't of its form; 3 its macros call each other in a ring; 4 its citation
@@ -39,7 +41,7 @@ layout has more elements than --elements; 10 a style exceeds --most-steps or
 library is missing, or what reads files of a form; 130 ended by Ctrl-C"""
 CITATIONS = """\
 example, with [[{"id": "doe99", "locator": "4"}]] in citations.json:
-  gamhilon %s --style apa library.bib citations.json"""
+  python3 -m gamhilon %s --style apa library.bib citations.json"""
 
 
 class Parser(argparse.ArgumentParser):
@@ -76,7 +78,7 @@ class Commands:
 
 def parser() -> argparse.ArgumentParser:
     """What the command line may say."""
-    made = Parser(prog='gamhilon', epilog=ENDINGS,
+    made = Parser(prog=COMMAND, epilog=ENDINGS,
                   description='Citations and bibliographies in any style of CSL.',
                   formatter_class=argparse.RawDescriptionHelpFormatter)
     made.add_argument('--version', action='store_true',
@@ -116,7 +118,7 @@ def _add_cite(commands: Any) -> None:
                           help='a JSON list of citations, which are lists of cites with an id; - '
                                'for standard input')
         made.add_argument('--style', required=True,
-                          help='a style: its name (gamhilon styles --all), or a file; - for '
+                          help=f'a style: its name ({COMMAND} styles --all), or a file; - for '
                                'standard input')
         made.add_argument('--references', dest='more', action='append', default=[], metavar='FILE',
                           help='more references; it may stand several times')

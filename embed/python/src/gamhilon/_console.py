@@ -15,6 +15,9 @@ from .errors import LimitExceeded, Refused, StyleLimitExceeded
 INPUT_OR_OUTPUT_FAILED, NOT_OF_ITS_FORM, INTERRUPTED = 1, 2, 130
 """Exit statuses: where reading or writing fails, where a file isn't of its form, and by Ctrl-C."""
 
+COMMAND = 'python3 -m gamhilon'
+"""How the commands of this package are called: `gamhilon` is the program of docs/WRITER.md."""
+
 _STACK = 64 * 1024 * 1024
 
 

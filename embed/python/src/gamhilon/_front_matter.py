@@ -56,7 +56,7 @@ class FrontMatter:
             return None
         if '://' in name:
             raise FrontMatterRefused(f'{field}: {name}: styles are not fetched: name a style of '
-                                     'gamhilon styles --all, or a file')
+                                     'python3 -m gamhilon styles --all, or a file')
         path = self._found(name) or self._found(f'{name}.csl')
         return path if path and path.endswith('.csl') else name
 

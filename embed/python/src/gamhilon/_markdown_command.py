@@ -7,7 +7,7 @@ import shutil
 from typing import Any, Dict, Iterator, List, NamedTuple, Optional, Sequence, Tuple
 
 from . import _console, csl, references
-from ._console import INPUT_OR_OUTPUT_FAILED, NOT_OF_ITS_FORM, name_of, say
+from ._console import COMMAND, INPUT_OR_OUTPUT_FAILED, NOT_OF_ITS_FORM, name_of, say
 from ._front_matter import FrontMatterRefused, front_matter_of
 from ._references_of_files import items_of_files
 from .errors import GamhilonError, LibraryMissing, Refused
@@ -25,8 +25,8 @@ def add_markdown(commands: Any) -> None:
     made.add_argument('--bibliography', action='append', default=[], metavar='FILE',
                       help='references, in place of those of `bibliography:` in the front matter '
                            'of a page; it may stand several times')
-    made.add_argument('--style', help='a style: its name (gamhilon styles --all), or a file; else '
-                                      '`csl:` of the page, or author-date')
+    made.add_argument('--style', help=f'a style: its name ({COMMAND} styles --all), or a file; '
+                                      'else `csl:` of the page, or author-date')
     made.add_argument('--locale', metavar='TAG',
                       help='the language; else `lang:` of the page, or that of the style')
     made.add_argument('--locales', metavar='FOLDER', help='where locale files are')

@@ -42,6 +42,28 @@ def single_spaced(text: str) -> str:
     return _CONTROL.sub('', _BREAKS.sub(' ', text))
 
 
+class LineEnd:
+    """The end of a line that is being written, for the space beside what is set off in it."""
+
+    def __init__(self) -> None:
+        self._last = ''
+        self._is_beside = False
+
+    def set_off(self) -> None:
+        """Something that is set off in the line begins or ends here."""
+        self._is_beside = True
+
+    def space_before(self, text: str) -> str:
+        """Moves behind a text. Gives the space that has to stand before it, where something is set
+        off between two texts and neither has a space there."""
+        if not text:
+            return ''
+        sides = self._last + text[0]
+        lacks_space = self._is_beside and len(sides) == 2 and not any(map(str.isspace, sides))
+        self._last, self._is_beside = text[-1], False
+        return ' ' if lacks_space else ''
+
+
 def safe_url(url: str) -> Optional[str]:
     """The address that a link may lead to, with escapes; or None. It has one of the schemes, in any
     case. A doi leads to doi.org. White space around it and in its scheme, and control characters,

@@ -171,7 +171,7 @@ class _Document:
 
     def _written(self, shown: Dict[int, Shown], bibliography: Optional[Bibliography]) -> str:
         aux = self.aux
-        lines = ['% What gamhilon latex has written: it is written anew from the .aux file.',
+        lines = ['% Made from the .aux file, each time anew, by python3 -m gamhilon latex.',
                  rf'\gamhilon@written{{{{{aux.style}}}{{{aux.locale}}}{{{aux.language}}}'
                  rf'{{{aux.libraries}}}{{{aux.checksum}}}}}']
         lines += [rf'\gamhilon@missing{{{key}}}' for key in aux.listed

@@ -5,7 +5,7 @@ import re
 from typing import List, Optional, Sequence, Union
 
 from . import _addresses
-from ._writing import Escape, Piece, anchor, formats, pieces, safe_url, single_spaced
+from ._writing import Escape, LineEnd, Piece, anchor, formats, pieces, safe_url, single_spaced
 from .answer import Bibliography, Citation, Item, Node, Tree, tree_of
 
 __all__ = ['bibliography_to_latex', 'to_latex']
@@ -74,10 +74,13 @@ def inline_latex(parts: Sequence[Piece]) -> str:
 
 def _latex(parts: Sequence[Piece], markup: Escape) -> str:
     out: List[str] = []
-    before = ''
+    before, end = '', LineEnd()
     for piece in parts:
         display = piece.node.get('display')
+        if display in ('left-margin', 'right-inline'):
+            end.set_off()
         if piece.kind == 'text':
+            out.append(end.space_before(single_spaced(piece.node['text'])))
             text = _text(piece.node)
             out.append('{}' if text and text[0] == before and before in "-'," else '')
             out.append(text)

@@ -5,7 +5,7 @@ import re
 from typing import List, Optional, Sequence, Union
 
 from . import _addresses
-from ._writing import Escape, Piece, anchor, formats, pieces, safe_url, single_spaced
+from ._writing import Escape, LineEnd, Piece, anchor, formats, pieces, safe_url, single_spaced
 from .answer import Bibliography, Citation, Item, Node, Tree, tree_of
 
 __all__ = ['bibliography_to_markdown', 'to_markdown']
@@ -31,9 +31,9 @@ def to_markdown(part: Union[Citation, Node, Tree], keys: Sequence[str] = (),
     item of its entry. Links lead to http, https, mailto and doi alone; a text with another address
     stands without one. Where the marks `*` and `**` would not be read as such, beside letters, the
     tags `em` and `strong` stand in their place; small capitals, underlines, superscripts and
-    subscripts are tags of HTML, too. Elements with a display stand in the line. `markup`
-    makes Markdown of a text in markup of its own, such as a formula, and shows its letters where it
-    isn't given.
+    subscripts are tags of HTML, too. Elements with a display stand in the line, with a space beside
+    them. `markup` makes Markdown of a text in markup of its own, such as a formula, and shows its
+    letters where it isn't given.
 
         >>> to_markdown({'text': 'On *Order*', 'font_style': 'italic', 'font_weight': 'normal'})
         '*On \\\\*Order\\\\**'
@@ -52,11 +52,15 @@ def _markdown(parts: Sequence[Piece], markup: Escape) -> str:
 
 def _joined(parts: Sequence[Piece], markup: Escape) -> str:
     out: List[str] = []
-    before = ''
+    before, end = '', LineEnd()
     for place, piece in enumerate(parts):
         text = ''
+        if piece.node.get('display'):
+            end.set_off()
         if piece.kind == 'text':
-            text = _text(piece.node, before, _letter_after(parts, place))
+            space = end.space_before(single_spaced(piece.node['text']))
+            before = space or before
+            text = space + _text(piece.node, before, _letter_after(parts, place))
         elif piece.kind == 'markup':
             text = markup(piece.node['markup'])
         elif piece.link:
@@ -113,6 +117,8 @@ def _letter_after(parts: Sequence[Piece], place: int) -> str:
             return str(node['markup'])[:1]
         if link or (kind == 'text' and (formats(node) or 'url' in node)):
             return ']'
+        if node.get('display'):
+            return ' '
         if kind == 'text' and node['text']:
             return single_spaced(node['text'])[:1]
     return ''

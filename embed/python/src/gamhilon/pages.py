@@ -1,4 +1,4 @@
-"""Whole answers in each form that `python -m gamhilon` gives: those of `render`, and those of
+"""Whole answers in each form that `python3 -m gamhilon` gives: those of `render`, and those of
 `cite` and `bibliography`."""
 from __future__ import annotations
 

@@ -226,7 +226,7 @@ class _Filter:
                              and is_shown(loss, self.style.variables)})
             if fields:
                 self.warn(f'{source.name}: not kept: {", ".join(fields)} '
-                          f'(gamhilon check {source.path} tells more)')
+                          f'({_console.COMMAND} check {source.path} tells more)')
 
     # What is put in
 

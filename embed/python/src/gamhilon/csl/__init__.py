@@ -26,16 +26,17 @@ from .locales import Locales
 from .rendering import (about, check_entries, check_file, check_locale, check_references,
                         check_style, render)
 from .results import Rendered, RenderedBibliography, RenderedCitation
+from .session import Changes, KeyChanges, Session
 from .style import About, find, is_locale, names, variables_of
 from .warned import Warned
 
 __all__ = [
-    'AbbreviationsLike', 'AbbreviationsRefused', 'About', 'Citation', 'CitationLike',
-    'CitationRefused', 'Cite', 'CiteLike', 'EntriesRefused', 'LABELS', 'Locales', 'ReferencesLike',
-    'Rendered', 'RenderedBibliography', 'RenderedCitation', 'StyleLike', 'StyleMissing',
-    'StyleRefused', 'Warned', 'about', 'check_entries', 'check_file', 'check_locale',
-    'check_references', 'check_style', 'find', 'is_locale', 'items_of', 'names', 'render',
-    'style_of', 'variables_of',
+    'AbbreviationsLike', 'AbbreviationsRefused', 'About', 'Changes', 'Citation', 'CitationLike',
+    'CitationRefused', 'Cite', 'CiteLike', 'EntriesRefused', 'KeyChanges', 'LABELS', 'Locales',
+    'ReferencesLike', 'Rendered', 'RenderedBibliography', 'RenderedCitation', 'Session',
+    'StyleLike', 'StyleMissing', 'StyleRefused', 'Warned', 'about', 'check_entries', 'check_file',
+    'check_locale', 'check_references', 'check_style', 'find', 'is_locale', 'items_of', 'names',
+    'render', 'style_of', 'variables_of',
 ]
 
 

@@ -3,10 +3,10 @@ from __future__ import annotations
 
 import re
 from dataclasses import dataclass, field
-from typing import Dict, List, Optional, Sequence, Tuple
+from typing import Dict, List, Optional, Sequence, Tuple, Union
 
-from .._writing import Piece, pieces
-from ..answer import Answer, Bibliography, Citation, Item, Tree, plain
+from .._writing import Piece, pieces, single_spaced
+from ..answer import Answer, Bibliography, Citation, Item, Node, Tree, plain
 from ..html_writer import bibliography_to_html, inline_html
 from ..latex_writer import bibliography_to_latex, inline_latex
 from ..markdown_writer import begun, bibliography_to_markdown, inline_markdown
@@ -28,7 +28,7 @@ class RenderedCitation(str):
     cites: Tuple[Cite, ...]
 
     def __new__(cls, citation: Citation, cites: Sequence[Cite]) -> RenderedCitation:
-        made = super().__new__(cls, plain(citation.content))
+        made = super().__new__(cls, _line(citation.content))
         made.content, made.note_number = citation.content, citation.note_number
         made.cites = tuple(cites)
         return made
@@ -70,9 +70,9 @@ class RenderedBibliography(Dict[str, str]):
 
     def __str__(self) -> str:
         items = self.tree.items if self.tree else []
-        firsts = [plain(item.first_field).rstrip() + ' ' if item.first_field else ''
+        firsts = [_line(item.first_field).rstrip() + ' ' if item.first_field else ''
                   for item in items]
-        return '\n'.join(first + plain(item.content) for first, item in zip(firsts, items))
+        return '\n'.join(first + _line(item.content) for first, item in zip(firsts, items))
 
     def to_html(self) -> str:
         """Its HTML, as `bibliography_to_html` gives it, with the ids to which cites lead."""
@@ -138,8 +138,13 @@ class Rendered:
 
 def item_text(item: Item) -> str:
     """The text of an item, its first field in front."""
-    first = plain(item.first_field) if item.first_field else ''
-    return first + plain(item.content)
+    first = _line(item.first_field) if item.first_field else ''
+    return first + _line(item.content)
+
+
+def _line(tree: Union[Node, Tree]) -> str:
+    """The text of a tree or of a node, on a line."""
+    return single_spaced(plain(tree))
 
 
 # Links without affixes

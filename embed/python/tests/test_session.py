@@ -1,0 +1,107 @@
+"""Sessions. What is expected was worked out by hand from CSL 1.0.2, or is what `render` gives of
+the same."""
+import pytest
+
+from gamhilon import csl
+from gamhilon.csl.session import KeyChanges, differing, key_changes
+
+
+def work(key, family, year, title='A Title'):
+    return {'id': key, 'type': 'book', 'title': title, 'author': [{'family': family}],
+            'issued': {'date-parts': [[year]]}}
+
+
+WORKS = [work('doe99', 'Doe', 1999), work('roe00', 'Roe', 2000), work('poe01', 'Poe', 2001)]
+
+
+# What changed, without a library
+
+@pytest.mark.parametrize('old, new, indexes', [
+    ([], [], []),
+    ([], ['a', 'b'], [0, 1]),
+    (['a', 'b'], [], [0, 1]),
+    (['a', 'b'], ['a', 'b'], []),
+    (['a', 'b', 'c'], ['a', 'x', 'c'], [1]),
+    (['a', 'b'], ['b'], [0, 1]),
+    (['a'], ['a', 'a'], [1]),
+])
+def test_indexes_at_which_lists_differ(old, new, indexes):
+    assert differing(old, new) == indexes
+
+
+@pytest.mark.parametrize('old, new, changes', [
+    ({}, {}, KeyChanges([], [], [])),
+    ({}, {'a': 1, 'b': 2}, KeyChanges([], ['a', 'b'], [])),
+    ({'a': 1, 'b': 2}, {'a': 1, 'b': 3}, KeyChanges(['b'], [], [])),
+    ({'a': 1, 'b': 2}, {'b': 2}, KeyChanges([], [], ['a'])),
+    ({'a': 1, 'b': 2}, {'b': 2, 'a': 1}, KeyChanges([], [], [], True)),
+    ({'a': 1, 'b': 2}, {'b': 2, 'c': 3}, KeyChanges([], ['c'], ['a'])),
+])
+def test_what_changed_by_keys(old, new, changes):
+    assert key_changes(old, new) == changes
+
+
+# With the library
+
+def test_the_first_update_is_all_new(cites):
+    with csl.Session('author-date', WORKS) as session:
+        changes = session.update([[{'id': 'doe99'}], [{'id': 'roe00'}]])
+    assert changes.rendered.citations == ['(Doe 1999)', '(Roe 2000)']
+    assert (changes.citations, changes.items.new) == ([0, 1], ['doe99', 'roe00'])
+
+
+def test_nothing_changes_where_the_same_is_asked_again(cites):
+    with csl.Session('author-date', WORKS) as session:
+        session.update([[{'id': 'doe99'}]])
+        assert not session.update([[{'id': 'doe99'}]])
+
+
+def test_a_new_citation_changes_those_that_it_makes_ambiguous(cites):
+    """Two works of one author and year have letters behind the year."""
+    works = [work('one', 'Doe', 1999, 'Alpha'), work('two', 'Doe', 1999, 'Beta')]
+    with csl.Session('author-date', works) as session:
+        session.update([{'citationID': 'x', 'citationItems': [{'id': 'one'}]}])
+        changes = session.update([{'citationID': 'x', 'citationItems': [{'id': 'one'}]},
+                                  {'citationID': 'y', 'citationItems': [{'id': 'two'}]}])
+    assert changes.rendered.citations == ['(Doe 1999a)', '(Doe 1999b)']
+    assert changes.citations == [0, 1]
+    assert (changes.named.changed, changes.named.new) == (['x'], ['y'])
+    assert (changes.items.changed, changes.items.new) == (['one'], ['two'])
+
+
+def test_each_update_is_what_render_gives(cites):
+    asked = [[{'id': 'doe99', 'locator': '4'}], [{'id': 'poe01'}, {'id': 'roe00'}]]
+    with csl.Session('author-date', WORKS) as session:
+        for count in (2, 1, 0, 2):
+            given = session.update(asked[:count]).rendered
+            assert given.answer == csl.render('author-date', WORKS, asked[:count]).answer
+
+
+def test_references_are_put_and_removed(cites):
+    with csl.Session('author-date', WORKS) as session:
+        session.update([[{'id': 'doe99'}]])
+        session.put([work('doe99', 'Doe', 2005)])
+        changes = session.update([[{'id': 'doe99'}]])
+        assert changes.rendered.citations == ['(Doe 2005)']
+        assert (changes.citations, changes.items.changed) == ([0], ['doe99'])
+        session.remove(['doe99'])
+        with pytest.raises(csl.CitationRefused):
+            session.update([[{'id': 'doe99'}]])
+        assert session.update([]).items.gone == ['doe99']
+
+
+def test_a_refusal_leaves_the_session_as_it_was(cites):
+    with csl.Session('author-date', WORKS) as session:
+        session.update([[{'id': 'doe99'}]])
+        with pytest.raises(csl.CitationRefused):
+            session.update([[{'id': 'nobody'}]])
+        with pytest.raises(csl.StyleMissing):
+            session.set_style('no-such-style')
+        assert not session.update([[{'id': 'doe99'}]])
+
+
+def test_a_closed_session_says_so(cites):
+    session = csl.Session('author-date', WORKS)
+    session.close()
+    with pytest.raises(ValueError, match='the session is closed'):
+        session.update([])
