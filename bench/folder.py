@@ -2,9 +2,9 @@
 """folder.py [DOCUMENTS]: how long a folder of documents takes by several processes, and by Dask.
 
 Makes so many documents (400, if not said), each of 200 requests as users have them (bench.py), and
-answers the folder by `gamhilon render --jobs N` and by the example on Dask with N workers, for N of
-1, 2 and 4. Prints the time by the clock of each, with the start of its processes, and how many
-times as fast it is as one alone. Dask is left out where it isn't installed (Debian:
+answers the folder by `python3 -m gamhilon render --jobs N` and by the example on Dask with N
+workers, for N of 1, 2 and 4. Prints the time by the clock of each, with the start of its processes,
+and how many times as fast it is as one alone. Dask is left out where it isn't installed (Debian:
 python3-distributed). Needs the library (embed/build.py).
 """
 import importlib.util
@@ -68,7 +68,7 @@ def main(count):
                 json.dump(bench.whole_author_date(REQUESTS), file)
         print(f'| {count} documents of {REQUESTS} requests | Processes | Time | Times as fast |')
         print('|---|---|---|---|')
-        measure('`gamhilon render --jobs`', by_jobs, documents, folder)
+        measure('`python3 -m gamhilon render --jobs`', by_jobs, documents, folder)
         if importlib.util.find_spec('distributed'):
             measure('Dask', by_dask, documents, folder)
         else:

@@ -11,9 +11,9 @@ MOST_GROWTHS = 50000
 # The exit status of a program where memory is refused.
 REFUSED = 5
 # Times as long for four times as much that are still about four times: both are measured while
-# others run, and so more than once before a test fails.
-ABOUT_FOUR = 6
-ATTEMPTS = 4
+# others run, and so more than once before a test fails. A square would take sixteen times.
+ABOUT_FOUR = 8
+ATTEMPTS = 8
 
 
 class Failed(Exception):
@@ -39,6 +39,18 @@ def ended(command, given, seconds, **how):
     except subprocess.TimeoutExpired:
         raise Failed('it had not ended after %d seconds' % seconds)
     return done.returncode, done.stdout, done.stderr
+
+
+def measured(command, **how):
+    """Status, standard output and standard error of a run without input, its processor time in seconds
+    and its most memory in bytes. (The memory is at least that of this process.)"""
+    with tempfile.TemporaryFile() as out, tempfile.TemporaryFile() as error:
+        process = subprocess.Popen(command, stdin=subprocess.DEVNULL, stdout=out, stderr=error, **how)
+        _, status, used = os.wait4(process.pid, 0)
+        process.returncode = os.waitstatus_to_exitcode(status)
+        out.seek(0)
+        error.seek(0)
+        return process.returncode, out.read(), error.read(), used.ru_utime + used.ru_stime, used.ru_maxrss * 1024
 
 
 def at_most(memory):
@@ -88,13 +100,14 @@ def refused_in_turn(run, unread=REFUSED):
 
 
 def processor_time(who, call):
-    """The processor time of a call, the least of three, and what it returned."""
+    """The processor time of a call without that of the system, the least of three, and what it
+    returned. (What the system takes for a page of memory differs by machines.)"""
     times = []
     for _ in range(3):
         before = resource.getrusage(who)
         returned = call()
         after = resource.getrusage(who)
-        times.append(after.ru_utime + after.ru_stime - before.ru_utime - before.ru_stime)
+        times.append(after.ru_utime - before.ru_utime)
     return min(times), returned
 
 

@@ -24,7 +24,7 @@ PAGE = 'docs/MAP.md'
 READERS = ['style_reader', 'style_elements']
 # The writer of citations by style files, and what the driver does in the mode `csl`.
 PRODUCT = '''csl_texts cite_pieces cite_locale cite_numbers cite_dates cite_program cite_names cite_trees cite_walk cite_sorting
-cite_host cite_answer cite_call gamhilon csl_telling csl_mentions csl_tables csl_notes csl_runs csl_blocks csl_shown csl_arranging
+cite_host cite_answer write_html write_forms cite_call gamhilon csl_telling csl_mentions csl_tables csl_notes csl_runs csl_blocks csl_shown csl_arranging
 csl_authors csl_cited_mentions csl_requested_mentions csl_told_cites csl_assembly csl_passes'''.split()
 # The writer of layouts in JSON, and what the driver does in the modes `three` and `full`.
 PORT = '''csl_lookup csl_styles csl_context csl_picking csl_writing csl_positions csl_ambiguity csl_name_marks csl_grouping
@@ -97,6 +97,8 @@ TOKENS = {
     'date-parts': (r'\bDateParts::', None),
     'gender': (r'\bGender\b', None),
     'gender-form': (r'\bgender_form\b', None),
+    'punctuation-in-quote': (r'\bpunctuation_in_quotes?\b|\bin_quotes\b', r'\bpunctuation_in_quotes?\b'),
+    'et-al-use-last': (r'\b(?:et_al_)?use_last\b', None),
     'match': (r'\bMatch::', r'\bChooseMatch::'),
     'disambiguate': (r'\bTest::Disambiguate\b|\bdisambiguates\b', r'\bCondition::Disambiguate\b'),
     'is-numeric': (r'\bTest::IsNumeric\b|\bfn is_numeric\b', None),
@@ -165,11 +167,27 @@ DEFINITIONS = {
     'givenname-disambiguation-rule=by-cite': 'csl_telling/specs/Reaches',
     **{'givenname-disambiguation-rule=' + it: 'csl_telling/specs/ByDocument'
        for it in ('all-names', 'all-names-with-initials', 'primary-name', 'primary-name-with-initials')},
-    **{'subsequent-author-substitute-rule=' + it: 'csl_authors/specs/Substitution'
+    **{'subsequent-author-substitute-rule=' + it: 'csl_authors/specs/Repeated'
        for it in ('complete-all', 'complete-each', 'partial-each', 'partial-first')},
+    **{'page-range-format' + it: 'csl_texts/specs/Pages'
+       for it in ('', '=chicago', '=chicago-15', '=chicago-16', '=expanded', '=minimal', '=minimal-two')},
+    'et-al-use-last': 'cite_names/specs/Cuts',
     'year-suffix': 'csl_mentions/specs/Suffixes',
     'citation-number': 'csl_driver/specs/CslAnswer',
     'first-reference-note-number': 'csl_notes/specs/Notes',
+}
+
+# Modules that do the work of a name, and have another word for it.
+CODE = {
+    'disambiguate-add-givenname': 'csl_telling::reach',
+    'disambiguate-add-names': 'csl_telling::reach',
+    'position=near-note': 'csl_notes::notes',
+    'position=far-note': 'csl_notes::notes',
+    'collapse=citation-number': 'csl_runs::numbers',
+    'collapse=year-suffix': 'csl_runs::suffixes',
+    'collapse=year-suffix-ranged': 'csl_runs::suffixes',
+    'demote-non-dropping-particle': 'cite_names::parts',
+    'et-al-use-last': 'cite_names::forms',
 }
 
 # The attributes that name the values of these tables of style_elements, each of these elements.
@@ -231,6 +249,14 @@ def in_product(pattern):
     return [it for it in found if it != 'cite_host::driven'] or found
 
 
+def working_on(key, pattern):
+    """The modules of the product that work on a name: those that CODE says go first."""
+    first = CODE.get(key, '').split()
+    if not all(it in code_of(it.split('::')[0]) for it in first):
+        sys.exit('map.py: CODE names modules of %s that are not there' % key)
+    return [*first, *(it for it in in_product(pattern) if it not in first)][:MOST]
+
+
 def in_writer(pattern):
     """Those of the writer of style files."""
     return modules(tuple(it for it in PRODUCT if it.startswith('cite_')), pattern)
@@ -280,11 +306,10 @@ def case_with(pattern, word):
 
 def held_by(key, pattern, word):
     """What a name's rule is: its definitions, or else a case that holds it."""
-    if key in DEFINITIONS:
-        return shown(it + '.antt' for it in DEFINITIONS[key].split())
     case = case_with(pattern, word)
-    if case:
-        return '“%s”' % case
+    held = [shown([it + '.antt']) for it in DEFINITIONS.get(key, '').split()] + ['“%s”' % case] * bool(case)
+    if held:
+        return ', '.join(held)
     for path in sorted(glob.glob(f'{ROOT}/tests/styles/documents/*') + glob.glob(f'{ROOT}/examples/styles/*.csl')):
         if re.search(pattern, text_of(os.path.relpath(path, ROOT))):
             return '`%s`' % os.path.relpath(path, ROOT)
@@ -328,7 +353,7 @@ def attribute_rows():
         product, port = TOKENS.get(key) or default_tokens(attribute)
         of = 'any' if len(elements) > 7 else shown(elements)
         tag = r'<(?:%s)\b[^>]*\s%s=' % ('|'.join(elements), attribute)
-        yield '| `%s` | %s | %s | %s | %s | %s |' % (attribute, of, shown(readers(attribute, elements)), shown(in_product(product)),
+        yield '| `%s` | %s | %s | %s | %s | %s |' % (attribute, of, shown(readers(attribute, elements)), shown(working_on(key, product)),
                                                     held_by(key, tag, attribute), shown(in_port(port)))
 
 
@@ -355,7 +380,8 @@ def value_rows():
             of_driver = [it for it in port if it.split('::')[1] == variant.split('::')[1]]
             product = '|'.join(r'\b%s\b' % it for it in {variant, *of_driver})
             yield '| `%s` | %s | %s | %s | %s |' % (
-                value, of, shown(in_product(product) or in_product((TOKENS.get(key) or default_tokens(attribute))[0])),
+                value, of, shown(working_on(f'{attribute}={value}', product)
+                                 or in_product((TOKENS.get(key) or default_tokens(attribute))[0])),
                 held_by(f'{attribute}={value}', tag % value, value),
                 shown(in_port('|'.join(r'\b%s\b' % it for it in port) or None)))
 
@@ -416,9 +442,10 @@ from the crates, and the tests hold it to be what that makes.
 Two writers stand under one driver (ARCHITECTURE.md). The *product* writes style files, with the
 rules of the mode `csl`; the *port* writes layouts in JSON, in the modes `three` and `full`. Module
 `c::m` is `crates/c/src/m.rt`, and `c/specs/D.antt` is in `crates/`. A row names at most three
-modules, those whose code has the name most often. *Held by* is the definition that the driver keeps
-to, or a case of `tests/writer/cases.py` in quotes, or a file that has the name. A dash means that
-there is none: a name that the port lacks is no part of its format.
+modules, those that mention the name most often; they may call the one that does the work. *Held by*
+has the definition that the driver keeps to, and a case of `tests/writer/cases.py` in quotes; or else
+a file that has the name (one of `tests/styles/documents` holds only that it is read). A dash means
+that there is none: a name that the port lacks is no part of its format.
 '''
 
 INFO = '''## Info

@@ -268,6 +268,59 @@ ALLOWED = {
 }
 
 
+# Styles with several faults, each at its mark, and their words.
+SEVERAL = {
+    'in all parts': (
+        style(
+            body=' <macro name="a"><text ¦variable="issued"/></macro>\n'
+            ' <bibliography>\n  <layout>\n   ¦<txt/>\n   <names ¦variable="title"/>\n  </layout>\n </bibliography>\n',
+            citation=' <citation ¦collapse="yeer">\n  <layout>\n'
+            '   <group>¦<date form="text"/></group>\n   <text ¦macro="b"/>\n  </layout>\n </citation>\n',
+        ),
+        [
+            'found `issued`, wanted a text or number variable',
+            'found `txt`, wanted an element that `layout` may contain, perhaps `text`',
+            'found `title`, wanted a name variable',
+            'found `yeer`, wanted a value of `collapse`, perhaps `year`',
+            'found `date`, wanted an attribute `variable` of it',
+            'found `b`, wanted the name of a macro',
+        ],
+    ),
+    'of the style, of its info and of a locale': (
+        style(
+            head=HEAD.replace('class="in-text"', '¦class="text"'),
+            info=' ¦<info>\n  <title>T</title>\n </info>\n',
+            body=' <locale>\n  <terms>\n   ¦<term form="short">a</term>\n   <term name="and" ¦form="shrt">a</term>\n  </terms>\n </locale>\n',
+        ),
+        [
+            'found `text`, wanted a value of `class`',
+            'found `info`, wanted an element `id` in it',
+            'found `term`, wanted an attribute `name` of it',
+            'found `shrt`, wanted a value of `form`, perhaps `short`',
+        ],
+    ),
+    'of macros as a whole, and in them': (
+        style(
+            body=' <macro name="a"/>\n <macro ¦name="a"/>\n <macro name="b"><text ¦quotes="on" value="b"/></macro>\n',
+        ),
+        [
+            'found `a`, wanted a name that no macro before has',
+            'found `on`, wanted a value of `quotes`',
+        ],
+    ),
+    'twenty of more': (layout('¦<txt/>\n   ' * 20 + '<txt/>' * 5), ['found `txt`, wanted an element that `layout` may contain, perhaps `text`'] * 20),
+}
+
+
+def all_placed(marked):
+    """A document without its marks, and the line and the column of each."""
+    places, text = [], ''
+    for part in marked.split('¦'):
+        text += part
+        places.append((text.count('\n') + 1, len(text) - (text.rfind('\n') + 1) + 1))
+    return text, places[:-1]
+
+
 def placed(marked):
     """A document without its mark, and the line and the column of the mark."""
     front, behind = marked.split('¦')

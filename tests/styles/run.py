@@ -31,7 +31,8 @@ sys.path.append(os.path.dirname(HERE))
 
 import csl_names
 import runs
-from broken import ALLOWED, REFUSED, WARNED, placed
+from broken import ALLOWED, REFUSED, SEVERAL, WARNED, all_placed, placed
+from colliding import LENGTH, colliding
 from mutated import mutated_documents
 from runs import ATTEMPTS, Failed, processor_time, read
 from said import said_of
@@ -182,6 +183,23 @@ def names_of_csl(programs):
 # The program
 
 
+def in_lines(path, text, places, words):
+    """What the program prints of these faults: each with its line of the file, and a caret."""
+    lines = text.split('\n')
+    told = zip(places, words)
+    return ''.join('%s:%d:%d: error: %s\n    %s\n    %s^\n' % (path, line, column, it, lines[line - 1], ' ' * (column - 1)) for (line, column), it in told)
+
+
+def several(programs):
+    """All faults of a style, twenty at most, in the order of their places."""
+    with tempfile.TemporaryDirectory(prefix='styles-') as folder:
+        for name, (marked, words) in SEVERAL.items():
+            text, places = all_placed(marked)
+            with open(folder + '/several.csl', 'w', encoding='utf-8') as file:
+                file.write(text)
+            program_is(programs, folder, ['several.csl'], 2, '', in_lines('several.csl', text, places, words))
+
+
 def program_is(programs, folder, given, status, out, error):
     """The program, on these files in a folder, ends and writes so."""
     done = subprocess.run([programs.gamhilon, 'check', *given], cwd=folder, stdout=subprocess.PIPE, stderr=subprocess.PIPE, timeout=SECONDS)
@@ -204,7 +222,7 @@ def program(programs):
         parent = 'journal.csl: dependent style of https://example.org/styles/notes\n'
         locale = 'words.xml: locale de-AT\n'
         warning = 'odd.csl:%d:%d: warning: %s\n' % (*odd[1:], WARNED['a variable'][1])
-        error = 'broken.csl:%d:%d: error: %s\n' % (*broken_one[1:], REFUSED['an unknown element'][1])
+        error = in_lines('broken.csl', broken_one[0].decode(), [broken_one[1:]], [REFUSED['an unknown element'][1]])
         no_text = 'bytes.csl:2:2: error: found `\\xff`, wanted UTF-8\n'
         it = (programs, folder)
         program_is(*it, ['notes.csl', 'journal.csl', 'words.xml'], 0, notes + parent + locale, '')
@@ -302,9 +320,13 @@ def shapes(size):
     def numbered(pattern):
         return ''.join(pattern % {'n': n, 'next': n + 1} for n in range(size // len(pattern)))
 
+    def macro(name):
+        return '<macro name="%s"><text variable="title"/></macro>' % name
+
     return {
         'elements': style('', many('<text variable="title" prefix="(" suffix=")"/>')),
         'macros': style(numbered('<macro name="m%(n)d"><text variable="title"/></macro>')),
+        'macros whose names collide': style(''.join(map(macro, colliding(size // len(macro(' ' * LENGTH)))))),
         'calls': style('<macro name="a"/>' + numbered('<macro name="b%(n)d"><text macro="a"/></macro>')),
         'warnings': style('', many('<text variable="titl" later="" fnt-style=""/>\n')),
         'terms': ('<locale xmlns="http://purl.org/net/xbiblio/csl" version="1.0" xml:lang="en"><terms>%s</terms></locale>' % many('<term name="page">p</term>')).encode(),
@@ -350,6 +372,7 @@ def tests_of(given):
     tests.append(('files that the limits just allow', allowed))
     tests.append(('names of CSL', names_of_csl))
     tests.append(('gamhilon check', program))
+    tests.append(('several faults', several))
     tests.append(('mutated files', mutations, given.mutate, given.seed))
     for path in own_documents():
         tests.append(('growths of memory: ' + os.path.basename(path), refused_in_turn, read(path)))

@@ -116,6 +116,7 @@ def in_form(name, rule, to, layout, *pairs):
     return cite(name, rule, layout, pages, [wanted for _, wanted in pairs], [cites(page['id']) for page in pages], to=to)
 
 
+IN_MARGIN = '<text value="x" display="left-margin"/><text variable="title" display="right-inline" font-style="italic"/>'
 FORMATTED = '<group delimiter=" ">%s</group>' % ''.join('<text variable="title" %s/>' % formatting for formatting in (
     'font-style="italic"', 'font-weight="bold"', 'font-weight="bold" font-style="italic"', 'font-variant="small-caps"',
     'text-decoration="underline"', 'vertical-align="sup"', 'vertical-align="sub"'))
@@ -156,6 +157,12 @@ CASES = [
     item('a link with its affix', 'Links: what a prefix has of the address is part of the link, and other affixes are not',
          '<text variable="DOI" prefix="doi: https://doi.org/" suffix="."/>', [PAPER],
          ['doi: <a href="https://doi.org/10.1000/182">https://doi.org/10.1000/182</a>.'], to='html'),
+    item('a link with the affix of its group', 'Links: the prefix of a group may begin the address of what it begins with',
+         '<group prefix="doi: https://doi.org/" suffix="."><text variable="DOI"/></group>', [PAPER],
+         ['doi: <a href="https://doi.org/10.1000/182">https://doi.org/10.1000/182</a>.'], to='html'),
+    item('formatting in a link', 'Links: one link, of which a part is in italics',
+         '<text variable="DOI" prefix="https://doi.org/" font-style="italic"/>', [PAPER],
+         ['<a href="https://doi.org/10.1000/182">https://doi.org/<i>10.1000/182</i></a>'], to='html'),
     item('a DOI behind a resolver', 'Links: a DOI leads to its resolver, whose address may stand before it',
          '<group delimiter=" "><text variable="DOI"/><text variable="DOI" prefix="https://doi.org/"/></group>',
          [{**PAPER, 'DOI': 'http://dx.doi.org/10.1000/1<2'}],
@@ -183,6 +190,10 @@ CASES = [
          [{**PAGE, 'title': 'No\nbody\x00\u2028was'}], ['No body was !'], to='html'),
     item('a block in a line', 'Display: a block stands apart', '<text variable="title" display="block"/><text value="x"/>', [PAGE],
          ['Nobody x']),
+    in_form('a margin in Markdown', 'Display: what stands in the left margin is apart from what is beside it', 'markdown', IN_MARGIN,
+            ('T', 'x *T*')),
+    in_form('a margin in LaTeX', 'Display: what stands in the left margin is apart from what is beside it', 'latex', IN_MARGIN,
+            ('T', r'x \textit{T}')),
     item('a period behind what is replaced', 'pandoc: the period that names share with what follows stands behind what replaces them',
          '<group delimiter=". " suffix=".">' + names('name-as-sort-order="all"') + YEAR + '</group>',
          [person('a', 'King', 'Martin L.', 1958), person('b', 'King', 'Martin L.', 1959)], ['King, Martin L. 1958.', '———. 1959.'],

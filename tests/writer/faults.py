@@ -11,7 +11,7 @@ STYLE = ('<style xmlns="http://purl.org/net/xbiblio/csl" class="in-text" version
          '</style>\n')
 REFERENCES = '[{"id": "a", "type": "book", "title": "A"}]'
 CITATIONS = '[[{"id": "a"}]]'
-HELP = '; gamhilon --help tells more'
+HELP = '; see gamhilon --help'
 DOCUMENT = ('{"styles": {"s": {"citation": {"elements": []}}}, "entries": [{"key": "a"}], "requests": [], '
             '"bibliography": {"style": "s"}}')
 # A document whose citation and bibliography have the title of its one entry.
@@ -528,8 +528,8 @@ FAULTS = [
     Fault('check of references that are odd and wrong', ['check', 'FILE/r.json', 'FILE/w.json'], 2,
           ['FILE/r.json: warning: /0: no type, taken for a document (item `a`)', 'FILE/w.json: error: /0: found a number, wanted an item, which is an object'],
           {'r.json': '[{"id": "a"}]', 'w.json': '[7]'}, out='FILE/r.json: 1 reference\n'),
-    Fault('check of what is no kind', ['check', 'FILE/n'], 2, ['FILE/n:1:1: error: …'], {'n': '7'}),
-    Fault('check of an empty file', ['check', 'FILE/n'], 2, ['FILE/n:1:1: error: …'], {'n': ''}),
+    Fault('check of what is no kind', ['check', 'FILE/n'], 2, ['FILE/n:1:1: error: …', '    7', '    ^'], {'n': '7'}),
+    Fault('check of an empty file', ['check', 'FILE/n'], 2, ['FILE/n:1:1: error: …', '    ', '    ^'], {'n': ''}),
     Fault('check of what is no text', ['check', 'FILE/n'], 2, ['FILE/n:2:1: error: …'], {'n': b'<a\n\xff/>'}),
-    Fault('check of nothing', ['check', 'FILE/none.csl', 'FILE/n'], 1, ['FILE/none.csl: …', 'FILE/n:1:1: error: …'], {'n': '7'}),
+    Fault('check of nothing', ['check', 'FILE/none.csl', 'FILE/n'], 1, ['FILE/none.csl: …', 'FILE/n:1:1: error: …', '    7', '    ^'], {'n': '7'}),
 ]

@@ -47,7 +47,8 @@ STYLE = ('<style xmlns="http://purl.org/net/xbiblio/csl" class="in-text" version
          '<bibliography hanging-indent="true"%s><layout>%s</layout></bibliography></style>')
 # The fields of a work that may have an address.
 LISTED = ('<text variable="citation-number" suffix=". "/><text variable="title"/><text variable="note" prefix=" "/>'
-          '<text variable="abstract" display="block"/><text variable="URL" prefix=" "/><text variable="DOI" prefix=" "/>')
+          '<text variable="abstract" display="block"/><text variable="type" display="left-margin"/>'
+          '<text variable="title" display="right-inline" font-style="italic"/><text variable="URL" prefix=" "/><text variable="DOI" prefix=" "/>')
 NOTES = ['see http://example.org/a_b?c=1&d=~e#f.', '(https://example.org/(a)), 10.1000/a_b<c>', 'x10.1000/a 10.12/b 10.1234567890/c',
          'HTTPS://example.org/%41/\u00e9;', '\u201chttp://example.org/\u201d', 'http:// https://.', 'doi:10.1000/182, a']
 WORKS = [{'id': 'work %d' % place, 'type': 'book', 'title': title, 'note': NOTES[place % len(NOTES)], 'abstract': title,

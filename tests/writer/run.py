@@ -8,7 +8,7 @@ whose citations and bibliographies of documents/ read as pandoc 2.17 writes them
 --record writes that file anew, by the pandoc that is installed); documents of examples and
 tests/documents, which `gamhilon render` answers as cite_run does; N triples of files (300, if not
 said), of which one is changed by changes drawn by the seed (mutations.py): each is answered, or
-refused with a line; Markdown and LaTeX, beside those of the Python package and what pandoc reads of
+refused with a line, and takes at most two seconds and 500 MB; Markdown and LaTeX, beside those of the Python package and what pandoc reads of
 them where it is installed (forms.py); and runs in three styles, of items in Markdown and LaTeX, and
 of `render`, of which each growth of memory is refused in turn (tests/documents/refuse.c, for which
 a C compiler must be there, and a program that brings no memory of its own, as that of `rt try`
@@ -32,6 +32,7 @@ import forms
 import pandoc
 import runs
 from cases import CASES
+from colliding import colliding
 from faults import CITATIONS, FAULTS, REFERENCES, SHEET, STYLE
 from mutations import is_told, mutated_files
 from runs import Failed, compiled, count, grows_evenly, processor_time
@@ -245,27 +246,44 @@ def refused_in_turn(program, words):
 # Changed files
 
 
+# What no run over changed files takes within the limits that hold by themselves: seconds of a
+# processor, and bytes of memory.
+MOST_SECONDS = 2
+MOST_MEMORY = 500_000_000
+# What is written of a triple of changed files.
+WRITTEN = (('cite', 'html'), ('bibliography', 'html'), ('cite', 'latex'), ('bibliography', 'markdown'))
+
+
 def try_mutations(program, count, seed):
-    """Each changed file is answered or refused, with lines that say so."""
+    """Each changed file is answered or refused, with lines that say so, and soon."""
     document = pandoc.documents()['works']
     styles = []
     for path in pandoc.STYLES:
         with open(path, 'rb') as file:
             styles.append(file.read())
 
-    def is_refused(files):
+    def tried(files):
+        most_seconds, most_memory = 0, 0
         with tempfile.TemporaryDirectory(prefix='writer-') as folder:
             written(folder, dict(zip(('s.csl', 'r.json', 'c.json'), files)))
-            for verb, form in (('cite', 'html'), ('bibliography', 'html'), ('cite', 'latex'), ('bibliography', 'markdown')):
-                status, out, error = ended(program, verb, '--style', 's.csl', '--to', form, 'r.json', 'c.json', cwd=folder)
-                if not is_told(status, out, error):
+            for verb, form in WRITTEN:
+                words = [program, verb, '--style', 's.csl', '--to', form, 'r.json', 'c.json']
+                status, out, error, seconds, memory = runs.measured(words, cwd=folder)
+                if not is_told(status, out.decode(), error.decode()):
                     raise Failed('status %d, %r, of %r' % (status, error[-300:], files))
-        return status != 0
+                if seconds > MOST_SECONDS or memory > MOST_MEMORY:
+                    raise Failed('%.1f s and %.0f MB, of %r' % (seconds, memory / 1e6, files))
+                most_seconds, most_memory = max(most_seconds, seconds), max(most_memory, memory)
+        return status != 0, most_seconds, most_memory
 
     files = mutated_files(styles, document['references'], document['citations'], count, seed)
     with ThreadPoolExecutor(os.cpu_count()) as pool:
-        refused = sum(pool.map(is_refused, files))
-    print('%d triples of files of the seed %d, of which %d are refused' % (count, seed, refused))
+        results = list(pool.map(tried, files))
+    refused = sum(was_refused for was_refused, _, _ in results)
+    seconds = max((took for _, took, _ in results), default=0)
+    memory = max((most for _, _, most in results), default=0)
+    print('%d triples of files of the seed %d: %d are refused, and none takes more than %.2f s and %.0f MB' % (
+        count, seed, refused, seconds, memory / 1e6))
 
 
 # Much of a kind
@@ -300,12 +318,27 @@ NOTES = {
 }
 
 
-def try_notes(program, note):
+def cites_with_notes(note):
+    """What makes a reference and so many cites of it, with these notes."""
+    def made(count):
+        cites = ({'id': 'a'} if note(n, count) is None else {'id': 'a', 'note': note(n, count)} for n in range(count))
+        return REFERENCES, [[cite] for cite in cites]
+
+    return made
+
+
+def cites_that_collide(count):
+    """So many references, whose ids have one hash, and a cite of each."""
+    ids = colliding(count)
+    return json.dumps([{'id': it, 'type': 'book', 'title': 'A'} for it in ids]), [[{'id': it}] for it in ids]
+
+
+def try_growth(program, made):
     """Four times as many citations take about four times as long."""
     def seconds(count):
-        cites = ({'id': 'a'} if note(n, count) is None else {'id': 'a', 'note': note(n, count)} for n in range(count))
-        with tempfile.TemporaryDirectory(prefix='notes-') as folder:
-            files = {'s.csl': STYLE, 'r.json': REFERENCES, 'c.json': json.dumps([[cite] for cite in cites])}
+        references, citations = made(count)
+        with tempfile.TemporaryDirectory(prefix='growth-') as folder:
+            files = {'s.csl': STYLE, 'r.json': references, 'c.json': json.dumps(citations)}
             written(folder, {name: text.encode() for name, text in files.items()})
             words = ['cite', '--style', *[os.path.join(folder, name) for name in files]]
             took, (status, out, _) = processor_time(resource.RUSAGE_CHILDREN, lambda: ended(program, *words))
@@ -343,7 +376,8 @@ def tests_of(options):
                       ['bibliography', '--to', form, '--style', pandoc.STYLES[0], 'r.json', 'c.json']))
     tests.append(('growths of memory: render', refused_in_turn, ['render', ROOT + '/examples/author_date.json']))
     tests.append(('the standard input in packets', try_packets))
-    tests += [('growth: ' + name, try_notes, note) for name, note in NOTES.items()]
+    tests += [('growth: ' + name, try_growth, cites_with_notes(note)) for name, note in NOTES.items()]
+    tests.append(('growth: ids that collide', try_growth, cites_that_collide))
     tests.append(('changed files', try_mutations, options.mutate, options.seed))
     return tests
 
