@@ -37,16 +37,80 @@ fn push_element(
     elements: &mut Vec<RenderingElement>,
     reading: &mut Reading<'_>,
 ) -> Result<(), Stop> {
-    let read = match csl_name(element) {
-        "names" => names_of(element, reading)?,
-        "group" => group_of(element, reading)?,
-        "choose" => choose_of(element, reading)?,
-        _ => match plain_element(element, reading)? {
-            Some(plain) => plain,
-            None => return Ok(()),
-        },
-    };
-    elements.push(read)?;
+    match csl_name(element) {
+        "names" => {
+            check_names(element, reading)?;
+            let substitute = elements_in(element, &SUBSTITUTE, reading)?;
+            push_names(element, substitute, elements, reading)
+        }
+        "group" => {
+            check(element, &GROUP, reading)?;
+            let children = elements_of(element, reading)?;
+            push_group(reading.alloc, element, children, elements)
+        }
+        "choose" => {
+            check_choose(element, reading)?;
+            let branches = branches_of(element, reading)?;
+            let otherwise = elements_in(element, &ELSE, reading)?;
+            push_choose(branches, otherwise, elements)
+        }
+        _ => push_plain(element, elements, reading),
+    }
+}
+
+// An element is large. What holds one stays out of the frames that nest as the file does, so that
+// the deepest file needs no more stack than the header of the library says.
+
+/// Adds the `names` with these elements in its `substitute`.
+#[inline(never)]
+fn push_names(
+    element: &Element,
+    substitute: Vec<RenderingElement>,
+    elements: &mut Vec<RenderingElement>,
+    reading: &mut Reading<'_>,
+) -> Result<(), Stop> {
+    let names = names_with(element, substitute, reading)?;
+    elements.push(RenderingElement::Names(names))?;
+    Ok(())
+}
+
+/// Adds the `group` of these children.
+#[inline(never)]
+fn push_group(
+    alloc: Global,
+    element: &Element,
+    children: Vec<RenderingElement>,
+    elements: &mut Vec<RenderingElement>,
+) -> Result<(), Stop> {
+    let group = group_with(alloc, element, children)?;
+    elements.push(RenderingElement::Group(group))?;
+    Ok(())
+}
+
+/// Adds the `choose` of these branches.
+#[inline(never)]
+fn push_choose(
+    branches: Vec<Branch>,
+    otherwise: Vec<RenderingElement>,
+    elements: &mut Vec<RenderingElement>,
+) -> Result<(), Stop> {
+    elements.push(RenderingElement::Choose(Choose {
+        branches,
+        otherwise,
+    }))?;
+    Ok(())
+}
+
+/// Adds the element without others in it that this is, where it writes something.
+#[inline(never)]
+fn push_plain(
+    element: &Element,
+    elements: &mut Vec<RenderingElement>,
+    reading: &mut Reading<'_>,
+) -> Result<(), Stop> {
+    if let Some(plain) = plain_element(element, reading)? {
+        elements.push(plain)?;
+    }
     Ok(())
 }
 
@@ -64,22 +128,6 @@ fn plain_element(
     }
 }
 
-/// The element that a `names` is.
-#[cycle(rendering)]
-fn names_of(element: &Element, reading: &mut Reading<'_>) -> Result<RenderingElement, Stop> {
-    check_names(element, reading)?;
-    let substitute = elements_in(element, &SUBSTITUTE, reading)?;
-    Ok(RenderingElement::Names(names_with(element, substitute, reading)?))
-}
-
-/// The element that a `group` is.
-#[cycle(rendering)]
-fn group_of(element: &Element, reading: &mut Reading<'_>) -> Result<RenderingElement, Stop> {
-    check(element, &GROUP, reading)?;
-    let elements = elements_of(element, reading)?;
-    Ok(RenderingElement::Group(group_with(reading.alloc, element, elements)?))
-}
-
 /// A `group` of these elements.
 fn group_with(
     alloc: Global,
@@ -95,18 +143,6 @@ fn group_with(
         formatting,
         display,
     })
-}
-
-/// The element that a `choose` is.
-#[cycle(rendering)]
-fn choose_of(element: &Element, reading: &mut Reading<'_>) -> Result<RenderingElement, Stop> {
-    check_choose(element, reading)?;
-    let branches = branches_of(element, reading)?;
-    let otherwise = elements_in(element, &ELSE, reading)?;
-    Ok(RenderingElement::Choose(Choose {
-        branches,
-        otherwise,
-    }))
 }
 
 /// The branches of a `choose` that have tests.
