@@ -8,11 +8,11 @@ ghost use Rattle.host_document.specs.DrivenForm.{driven_top_form, written_at};
 
 use csl_base::entry::PlainEntry;
 use host_memo::table::Table;
-use indexmap::IndexMap;
 use json_styles::styles::NamedStyle;
 use json_tasks::written::table_of;
 use json_values::error::ReadError;
 use json_values::words::object_with;
+use ordered_map::map::OrderedMap;
 use serde_json::Value;
 use std::alloc::Global;
 
@@ -50,7 +50,7 @@ pub(crate) fn table_at(
     ensures fault { Faults result (view object.now) }
 {
     match object.get("written") {
-        None => Ok(IndexMap::new(alloc)),
+        None => Ok(OrderedMap::new(alloc)),
         Some(member) => match table_of(alloc, member, styles, entries) {
             Ok(table) => Ok(table),
             Err(error) => Err(error.under(alloc, "written")),

@@ -6,7 +6,7 @@ use Rattle.std.specs.List.{list_any}
 use Rattle.std.proofs.lemmas.Bool.{lt-ltb, ltb-false, ltb-true}
 use Rattle.std.proofs.lemmas.List.Elements.{All-append, All-cons, All-contains, All-nil, Contains-append_left, Contains-push}
 use Rattle.csl_ambiguity.proofs.Contained.{some-in}
-use Rattle.indexmap.specs.IndexSet.{insert_key}
+use Rattle.ordered_set.specs.Keys.{with_key}
 use Rattle.csl_values.specs.Answers.{Answers}
 use Rattle.csl_values.specs.Tells.{TellsEqual}
 use Rattle.host_memo.specs.Keys.{stage, task_key}
@@ -32,7 +32,7 @@ IsCovered notes key = Contains notes key ⊎ (is_later notes key ≡ true)
 
 -- one more is named
 abbrev noted_if : Bool → TaskKey → List TaskKey → List TaskKey
-noted_if skipped key notes = if skipped then notes else insert_key key_eq (kept_beside key notes) key
+noted_if skipped key notes = if skipped then notes else with_key key_eq (kept_beside key notes) key
 
 not-contained : (k : TaskKey) → Contains [] k → ⊥
 not-contained k (i, lt, e) = omega (arith, lt)
@@ -42,7 +42,7 @@ alone key = All-cons (λ k. stage k ≡ stage key) key [] refl (All-nil (λ k. s
 
 -- what is added is of the stage of the others
 one-stage-inserted : (notes : List TaskKey) (key : TaskKey) (earlier : Bool) → is_earlier notes key ≡ earlier → is_later notes key ≡ false
-    → AreOfOneStage notes → AreOfOneStage (insert_key key_eq (if earlier then [] else notes) key)
+    → AreOfOneStage notes → AreOfOneStage (with_key key_eq (if earlier then [] else notes) key)
 one-stage-inserted notes key true e l h = alone key
 one-stage-inserted [] key false e l h = alone key
 one-stage-inserted (n ∷ notes) key false e l h = by (list_any (key_eq key) (n ∷ notes))
@@ -66,7 +66,7 @@ one-stage notes key false early h = one-stage-inserted notes key (is_earlier not
 
 -- what is covered stays so where something is added
 covered-inserted : (notes : List TaskKey) (key k : TaskKey) (earlier : Bool) → is_earlier notes key ≡ earlier
-    → AreOfOneStage notes → IsCovered notes k → IsCovered (insert_key key_eq (if earlier then [] else notes) key) k
+    → AreOfOneStage notes → IsCovered notes k → IsCovered (with_key key_eq (if earlier then [] else notes) key) k
 covered-inserted [] key k earlier e h (inl c) = absurd (not-contained k c)
 covered-inserted [] key k earlier e h (inr l) = absurd (true≢false (sym l))
 covered-inserted (n ∷ notes) key k true e h (inl c) =
@@ -95,7 +95,7 @@ covered-stays notes key k true h c = c
 covered-stays notes key k false h c = covered-inserted notes key k (is_earlier notes key) refl h c
 
 -- what is added is there
-is-there : TellsEqual key_eq → (notes : List TaskKey) (key : TaskKey) → Contains (insert_key key_eq notes key) key
+is-there : TellsEqual key_eq → (notes : List TaskKey) (key : TaskKey) → Contains (with_key key_eq notes key) key
 is-there tells notes key = by (list_any (key_eq key) notes) refl
   where
     by : (b : Bool) → list_any (key_eq key) notes ≡ b → Contains (if b then notes else notes ++ key ∷ []) key

@@ -17,7 +17,7 @@ use host_memo::key::TaskKey;
 use host_memo::laws::key_equality_decides;
 use host_memo::table::Table;
 use host_table::table::TableWriter;
-use indexmap::IndexSet;
+use ordered_set::set::OrderedSet;
 use std::alloc::Global;
 
 /// What comes of a table, with accounts of this type.
@@ -28,7 +28,7 @@ pub enum Driven<A> {
     /// What is asked for and the table lacks, each once: the host writes it, and asks again. It is
     /// all of the earliest stage (`TaskKey::stage`) of what is lacked; what is of a later one isn't
     /// named yet.
-    Missing(IndexSet<TaskKey>),
+    Missing(OrderedSet<TaskKey>),
 }
 
 /// Answers all requests of a driver with what a host has written. The driver stays for the next

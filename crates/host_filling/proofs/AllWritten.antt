@@ -2,18 +2,17 @@
 use Rattle.std.proofs.Common.{◌≡◌, ◌||◌, Bool, true, false, List, [], ◌∷◌, ◌++◌, refl, ap, ◌∙◌}
 use Rattle.std.specs.Prelude.{All, IsSome}
 use Rattle.std.specs.Bool.{if◌then◌else◌}
-use Rattle.std.specs.HashMap.{HashMap}
 use Rattle.std.specs.List.{list_any}
 use Rattle.std.proofs.lemmas.List.Folds.{list_any-append}
 use Rattle.std.proofs.lemmas.List.Elements.{All-cons, All-nil, All-weaker}
-use Rattle.indexmap.specs.IndexMap.{keys}
+use Rattle.ordered_map.specs.Entries.{Entries}
 use Rattle.csl_values.specs.Answers.{Answers}
 use Rattle.csl_values.specs.Tells.{TellsEqual}
 use Rattle.csl_writers.specs.Tasks.{TaskValue}
 use Rattle.csl_writers.specs.declared.cite.Cite.{Cite}
 use Rattle.host_memo.specs.Keys.{task_key}
 use Rattle.host_memo.specs.Memo.{key_noted, keys_noted}
-use Rattle.host_memo.specs.Written.{found, key_eq}
+use Rattle.host_memo.specs.Written.{found, key_eq, keys}
 use Rattle.host_memo.specs.declared.key.TaskKey.{TaskKey}
 use Rattle.host_memo.proofs.Growing.{has_key}
 
@@ -51,7 +50,7 @@ module _ (tells : TellsEqual key_eq) where
         All-cons (λ other. list_any (key_eq (task_key answers other)) (keys_noted answers tasks (key_noted key ks)) ≡ true) task tasks
         (all-stay key tasks (key_noted key ks) (noted-by key ks (list_any (key_eq key) ks) refl)) (all-noted tasks (key_noted key ks))
 
-    pub all-written : {S : Type 0} (m : HashMap TaskKey Cite S) (tasks : List (TaskValue E P)) → keys m ≡ keys_noted answers tasks []
+    pub all-written : (m : Entries TaskKey Cite) (tasks : List (TaskValue E P)) → keys m ≡ keys_noted answers tasks []
         → All (λ task. IsSome (found m (task_key answers task))) tasks
     all-written m tasks e =
         All-weaker (λ task. list_any (key_eq (task_key answers task)) (keys_noted answers tasks []) ≡ true)

@@ -1,11 +1,10 @@
 //! Answers by a source.
 ghost use Rattle.std.specs.Prelude.{◌≡◌, [], All, IfErr, IfOk};
-ghost use Rattle.indexmap.specs.IndexMap.{keys};
 ghost use Rattle.csl_driver.specs.JobView.{job_of};
 ghost use Rattle.csl_driver.specs.Promised.{RefusesWith};
 ghost use Rattle.host_driver.specs.Driven.{IsCslWhole, IsWhole, asked_for_all, csl_asked_for_all};
 ghost use Rattle.host_memo.specs.Memo.{keys_noted};
-ghost use Rattle.host_memo.specs.Written.{found};
+ghost use Rattle.host_memo.specs.Written.{found, keys};
 
 use csl_assembly::rendered::Rendered;
 use csl_base::entry::EntryLike;

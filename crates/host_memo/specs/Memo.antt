@@ -2,7 +2,7 @@
 use Rattle.std.specs.Prelude.{◌≡◌, List, Option, Some, None}
 use Rattle.std.proofs.Common.{ap}
 use Rattle.csl_values.specs.Answers.{Answers}
-use Rattle.indexmap.specs.IndexSet.{insert_key}
+use Rattle.ordered_set.specs.Keys.{with_key}
 use Rattle.host_memo.specs.Keys.{cite_key, date_key, item_key, key_of_part, standing_of, task_key}
 use Rattle.host_memo.specs.Written.{key_eq, written_as}
 use Rattle.host_memo.specs.declared.key.TaskKey.{TaskKey}
@@ -35,7 +35,7 @@ agrees_in table = record { at = λ key cite e. ap written_as e }
 
 -- the keys of tasks, once this one is noted too: each stands there once
 abbrev pub key_noted : TaskKey → List TaskKey → List TaskKey
-key_noted key keys = insert_key key_eq keys key
+key_noted key keys = with_key key_eq keys key
 
 -- the keys of these tasks, each once, in the order in which they are asked for; behind others
 abbrev pub keys_noted : {E P : Type 0} → (E → Answers) → List (TaskValue E P) → List TaskKey

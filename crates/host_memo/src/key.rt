@@ -30,7 +30,7 @@ use std::alloc::{AllocError, Global};
 /// Cites that are rendered to be compared have no place, and items of the bibliography have none; a
 /// cite or a date that is written for the last time has the index of its request and its own in the
 /// items of that request, both from 0.
-#[derive(PartialEq, Eq, PartialOrd, Ord, Hash, Drop)]
+#[derive(PartialEq, Eq, PartialOrd, Ord, Drop)]
 pub struct TaskKey {
     pub style: Text,
     pub locale: Text,
@@ -40,7 +40,7 @@ pub struct TaskKey {
 }
 
 /// What of the entry is asked for.
-#[derive(PartialEq, Eq, PartialOrd, Ord, Hash, Drop)]
+#[derive(PartialEq, Eq, PartialOrd, Ord, Drop)]
 pub enum TaskPart {
     /// A cite, for its purpose and as its verdict cuts it.
     Cite(Standing, Option<CitePurpose>, Option<CollapseVerdict>),
@@ -51,7 +51,7 @@ pub enum TaskPart {
 }
 
 /// What is known of a cite.
-#[derive(PartialEq, Eq, PartialOrd, Ord, Hash, Drop)]
+#[derive(PartialEq, Eq, PartialOrd, Ord, Drop)]
 pub struct Standing {
     /// The number of the note in which it stands.
     pub note_number: Option<usize>,
@@ -174,6 +174,57 @@ pub fn date_key<T: EntryLike>(alloc: Global, task: &DateTask<'_, T>) -> Result<T
 {
     let part = TaskPart::Date(task.suffix);
     key_of(alloc, &task.source, task.entry, task.place, part)
+}
+
+impl Clone for TaskKey {
+    ghost is_clone = { λ key copy. copy ≡ key };
+
+    fn clone(&self) -> Result<TaskKey, AllocError> {
+        Ok(TaskKey {
+            style: self.style.clone()?,
+            locale: self.locale.clone()?,
+            entry: self.entry.clone()?,
+            place: self.place,
+            part: self.part.clone()?,
+        })
+    }
+}
+
+impl Clone for TaskPart {
+    ghost is_clone = { λ part copy. copy ≡ part };
+
+    fn clone(&self) -> Result<TaskPart, AllocError> {
+        Ok(match self {
+            TaskPart::Cite(standing, purpose, verdict) => {
+                TaskPart::Cite(standing.clone()?, *purpose, *verdict)
+            }
+            TaskPart::Item(standing) => TaskPart::Item(standing.clone()?),
+            TaskPart::Date(suffix) => TaskPart::Date(*suffix),
+        })
+    }
+}
+
+impl Clone for Standing {
+    ghost is_clone = { λ standing copy. copy ≡ standing };
+
+    fn clone(&self) -> Result<Standing, AllocError> {
+        let locator = match &self.locator {
+            Some((kind, text)) => Some((*kind, text.clone()?)),
+            None => None,
+        };
+        Ok(Standing {
+            note_number: self.note_number,
+            first_note_number: self.first_note_number,
+            is_near_note: self.is_near_note,
+            is_first: self.is_first,
+            ibid: self.ibid,
+            citation_number: self.citation_number,
+            locator,
+            disambiguation: self.disambiguation.clone()?,
+            means: self.means.clone()?,
+            identifier_usage: self.identifier_usage,
+        })
+    }
 }
 
 impl TaskKey {

@@ -10,7 +10,7 @@ use csl_base::entry::EntryLike;
 use csl_writers::cite::Cite;
 use csl_writers::task::{CiteTask, DateTask, ItemTask};
 use csl_writers::writer::CiteWriter;
-use indexmap::IndexMap;
+use ordered_map::map::OrderedMap;
 use std::alloc::{AllocError, Global};
 
 /// Asks a source once for each task, and answers equal tasks by what it wrote: those whose keys are
@@ -26,9 +26,8 @@ pub struct Memo<S: Source> {
 impl<S: Source> Memo<S> {
     ghost use Rattle.std.specs.Prelude.{◌≡◌, [], IfNone, IfOk, IfSome, OnOk, None, Some};
     ghost use Rattle.csl_writers.specs.declared.cite.Cite.{Cite};
-    ghost use Rattle.indexmap.specs.IndexMap.{keys};
     ghost use Rattle.host_memo.specs.Memo.{Agrees, Grows, key_noted};
-    ghost use Rattle.host_memo.specs.Written.{found};
+    ghost use Rattle.host_memo.specs.Written.{found, keys};
     ghost use Rattle.host_memo.specs.declared.key.TaskKey.{TaskKey};
 
     /// A memo of this source, which it hasn't asked for anything yet.
@@ -37,7 +36,7 @@ impl<S: Source> Memo<S> {
         ensures nothing { keys result.written ≡ [] }
     {
         Memo {
-            written: IndexMap::new(alloc),
+            written: OrderedMap::new(alloc),
             source,
         }
     }
@@ -98,10 +97,11 @@ impl<S: Source> Memo<S> {
     {
         key_equality_decides();
         let own = copied(&cite)?;
-        match self.written.insert(key, cite) {
-            Ok(_) => Ok(own),
-            Err(_) => Err(AllocError),
-        }
+        let Ok(copy) = key.clone() else {
+            return Err(AllocError);
+        };
+        self.written.add(key, copy, cite)?;
+        Ok(own)
     }
 }
 
@@ -113,10 +113,9 @@ impl<T: EntryLike, P, S: Source> CiteWriter<T, P> for Memo<S> {
       way_state,
       way_writes_equally,
     };
-    ghost use Rattle.host_memo.specs.Written.{found};
+    ghost use Rattle.host_memo.specs.Written.{found, keys};
     ghost use Rattle.host_memo.specs.declared.key.TaskKey.{TaskKey};
     ghost use Rattle.csl_writers.specs.declared.cite.Cite.{Cite};
-    ghost use Rattle.indexmap.specs.IndexMap.{keys};
 
     type Error = S::Error;
 

@@ -3,11 +3,11 @@ ghost use Rattle.std.specs.Prelude.{◌≡◌, IfOk};
 
 use crate::key::TaskKey;
 use csl_writers::cite::Cite;
-use indexmap::IndexMap;
+use ordered_map::map::OrderedMap;
 use std::alloc::AllocError;
 
 /// What was written, by what it was asked for. Of an item and of a date the tree alone counts.
-pub type Table = IndexMap<TaskKey, Cite>;
+pub type Table = OrderedMap<TaskKey, Cite>;
 
 /// A copy of what was written.
 ///

@@ -1,10 +1,11 @@
 -- What is noted of what a table lacks.
 use Rattle.std.proofs.Common.{◌≡◌, ◌||◌, List, [], ◌∷◌, ◌++◌, length, Bool, true, false, Option, Some, None, refl, sym, subst, ◌∙◌, arith}
-use Rattle.std.specs.Prelude.{All, Contains, IsSome, is_some}
+use Rattle.std.specs.Prelude.{◌==◌, All, Contains, IsSome, is_some}
 use Rattle.std.specs.Bool.{if◌then◌else◌}
 use Rattle.std.specs.List.{list_any}
 use Rattle.std.proofs.lemmas.List.Elements.{All-append, All-cons, All-nil, Contains-append_right}
-use Rattle.indexmap.specs.IndexSet.{insert_key}
+use Rattle.std.proofs.lemmas.Bool.{eqb-true}
+use Rattle.ordered_set.specs.Keys.{with_key}
 use Rattle.csl_values.specs.Answers.{Answers}
 use Rattle.host_memo.specs.Keys.{task_key}
 use Rattle.host_memo.specs.Written.{key_eq}
@@ -38,12 +39,12 @@ not-empty true key (n ∷ notes) found e = cc
 not-empty false key [] found e = cc
 not-empty false key (n ∷ notes) found e = cc
 
-inserted-not-empty : (key : TaskKey) (notes : List TaskKey) → insert_key key_eq notes key ≡ [] → ⊥
+inserted-not-empty : (key : TaskKey) (notes : List TaskKey) → with_key key_eq notes key ≡ [] → ⊥
 inserted-not-empty key notes e = not-empty (list_any (key_eq key) notes) key notes refl e
 
 -- a note that leaves nothing noted is of something that is there
 once-none : (o : Option Cite) (later : Bool) (key : TaskKey) (notes : List TaskKey) → is_later notes key ≡ later
-    → (if is_some o || later then notes else insert_key key_eq (kept_beside key notes) key) ≡ [] → (notes ≡ []) × IsSome o
+    → (if is_some o || later then notes else with_key key_eq (kept_beside key notes) key) ≡ [] → (notes ≡ []) × IsSome o
 once-none (Some c) later key notes l e = (e, refl)
 once-none None true key [] l e = cc
 once-none None true key (n ∷ notes) l e = cc
@@ -58,7 +59,7 @@ kept P true notes h = All-nil P
 kept P false notes h = h
 
 once-all : (P : TaskKey → Type 0) (o : Option Cite) (later : Bool) (key : TaskKey) (notes : List TaskKey) → (o ≡ None → P key) → All P notes
-    → All P (if is_some o || later then notes else insert_key key_eq (kept_beside key notes) key)
+    → All P (if is_some o || later then notes else with_key key_eq (kept_beside key notes) key)
 once-all P (Some c) later key notes p h = h
 once-all P None true key notes p h = h
 once-all P None false key notes p h =
@@ -82,9 +83,9 @@ module _ {E P : Type 0} (table : TaskKey → Option Cite) (answers : E → Answe
       (λ e. record { task = task; among = i; is = refl; lacked = e }))
       asked [] (λ task i. i) (All-nil (IsMissingOf table answers asked)))
 
-pub empty : (ks : List TaskKey) → length ks ≡ 0 → ks ≡ []
+pub empty : (ks : List TaskKey) → (length ks == 0) ≡ true → ks ≡ []
 empty [] e = refl
-empty (k ∷ ks) e = let bad : ⊥ = omega (arith, e) in absurd bad
+empty (k ∷ ks) e = let bad : length (k ∷ ks) ≡ 0 = eqb-true (length (k ∷ ks)) 0 e in absurd (omega (arith, bad))
 
 pub clash : {b : Bool} → b ≡ true → b ≡ false → ⊥
 clash t f = cc

@@ -1,7 +1,7 @@
 -- What is written from a table, and what is noted.
 use Rattle.std.specs.Prelude.{◌≡◌, ◌||◌, Bool, false, List, [], ◌∷◌, Option, None, Some, Contains, is_some, nat_lt}
 use Rattle.std.specs.Bool.{if◌then◌else◌}
-use Rattle.indexmap.specs.IndexSet.{insert_key}
+use Rattle.ordered_set.specs.Keys.{with_key}
 use Rattle.csl_values.specs.Answers.{Answers}
 use Rattle.host_memo.specs.Keys.{cite_key, date_key, item_key, stage, task_key}
 use Rattle.host_memo.specs.Written.{key_eq, written_as}
@@ -30,7 +30,7 @@ module _ (table : TaskKey → Option Cite) where
   abbrev pub note_once : TaskKey → List TaskKey → List TaskKey
   note_once key notes =
       if is_some (table key) || is_later notes key then notes
-      else insert_key key_eq (kept_beside key notes) key
+      else with_key key_eq (kept_beside key notes) key
 
   module _ {E P : Type 0} (answers : E → Answers) where
     abbrev pub table_state : List TaskKey → WriterState E P TaskKey

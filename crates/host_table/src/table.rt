@@ -10,7 +10,7 @@ use csl_writers::task::{CiteTask, DateTask, ItemTask};
 use csl_writers::writer::CiteWriter;
 use host_memo::key::{TaskKey, cite_key, date_key, item_key};
 use host_memo::table::{Table, copied};
-use indexmap::IndexSet;
+use ordered_set::set::OrderedSet;
 use std::alloc::{AllocError, Global};
 
 /// Answers from a table that it borrows. What the table lacks is answered by an empty tree, and
@@ -19,7 +19,7 @@ use std::alloc::{AllocError, Global};
 #[derive(Drop)]
 pub struct TableWriter<'t> {
     pub written: &'t Table,
-    pub missing: IndexSet<TaskKey>,
+    pub missing: OrderedSet<TaskKey>,
 }
 
 /// Nothing: an empty tree.
@@ -36,8 +36,9 @@ fn nothing(alloc: Global) -> Cite
 
 impl<'t> TableWriter<'t> {
     ghost use Rattle.std.specs.Prelude.{◌≡◌, IfOk, OnOk, []};
-    ghost use Rattle.host_memo.specs.Written.{found, written_as};
-    ghost use Rattle.host_table.specs.Table.{is_earlier, is_later, note_once};
+    ghost use Rattle.ordered_set.specs.Keys.{with_key};
+    ghost use Rattle.host_memo.specs.Written.{found, key_eq, written_as};
+    ghost use Rattle.host_table.specs.Table.{is_earlier, is_later, kept_beside, note_once};
 
     /// A writer that has noted nothing yet.
     pub fn new(alloc: Global, written: &'t Table) -> TableWriter<'t>
@@ -46,7 +47,7 @@ impl<'t> TableWriter<'t> {
     {
         TableWriter {
             written,
-            missing: IndexSet::new(alloc),
+            missing: OrderedSet::new(alloc),
         }
     }
 
@@ -54,7 +55,7 @@ impl<'t> TableWriter<'t> {
     fn is_later(&self, key: &TaskKey) -> bool
         ensures { result ≡ is_later self.now.missing.keys key.now }
     {
-        match self.missing.first() {
+        match self.missing.as_slice().first() {
             Some(first) => first.stage() < key.stage(),
             None => false,
         }
@@ -64,7 +65,7 @@ impl<'t> TableWriter<'t> {
     fn is_earlier(&self, key: &TaskKey) -> bool
         ensures { result ≡ is_earlier self.now.missing.keys key.now }
     {
-        match self.missing.first() {
+        match self.missing.as_slice().first() {
             Some(first) => key.stage() < first.stage(),
             None => false,
         }
@@ -81,15 +82,35 @@ impl<'t> TableWriter<'t> {
         if let Some(cite) = self.written.get(&key) {
             return copied(cite);
         }
-        if self.is_earlier(&key) {
-            self.missing.clear();
+        if self.is_later(&key) {
+            return Ok(nothing(alloc));
         }
-        if !self.is_later(&key) {
-            if let Err(_) = self.missing.insert_full(key) {
-                return Err(AllocError);
-            }
-        }
+        self.keep_beside(alloc, &key);
+        self.note(key)?;
         Ok(nothing(alloc))
+    }
+
+    // Drops what is noted, where it is of a later stage.
+    fn keep_beside(&mut self, alloc: Global, key: &TaskKey)
+        ensures same_table { self.new.written ≡ self.old.written }
+        ensures kept { self.new.missing.keys ≡ kept_beside key.now self.old.missing.keys }
+    {
+        if self.is_earlier(key) {
+            self.missing = OrderedSet::new(alloc);
+        }
+    }
+
+    // Notes this once.
+    fn note(&mut self, key: TaskKey) -> Result<(), AllocError>
+        ensures same_table { self.new.written ≡ self.old.written }
+        ensures noted { OnOk result
+            (self.new.missing.keys ≡ with_key key_eq self.old.missing.keys key) }
+    {
+        let Ok(copy) = key.clone() else {
+            return Err(AllocError);
+        };
+        self.missing.insert(key, copy)?;
+        Ok(())
     }
 }
 

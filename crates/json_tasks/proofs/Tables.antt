@@ -2,13 +2,14 @@
 use Rattle.std.proofs.Common.{◌≡◌, ◌&&◌, Bool, true, false, cond, List, [], ◌∷◌, ◌++◌, Option, Some, None, option_and_then, refl, sym, ap, ◌∙◌, append_assoc}
 use Rattle.std.specs.Prelude.{option_map, is_some}
 use Rattle.std.specs.Cmp.{IsEquivalence}
-use Rattle.std.specs.HashMap.{HashMap, Updates}
-use Rattle.std.specs.List.{list_all}
+use Rattle.std.specs.List.{list_all, list_any}
 use Rattle.std.specs.Map.{lookup}
 use Rattle.std.proofs.lemmas.Bool.{and_from}
 use Rattle.json_document.proofs.FirstKeyed.{first_of_none}
 use Rattle.csl_trees.specs.SameTree.{same_trees-Decides}
+use Rattle.ordered_map.specs.Entries.{Entries, keys_of, with_entry}
 use Rattle.host_memo.specs.Written.{found, key_eq}
+use Rattle.host_memo.proofs.Growing.{has_key}
 use Rattle.host_memo.specs.contracts.key.TaskKeyEq.TheImpl.Laws.{laws-law}
 use Rattle.host_memo.specs.declared.key.TaskKey.{TaskKey}
 use Rattle.csl_writers.specs.declared.cite.Cite.{Cite}
@@ -42,25 +43,30 @@ stays : (o : Option Cite) (c : Cite) → is_some o ≡ true → o ≡ first_of o
 stays None c h = cc
 stays (Some x) c h = refl
 
-comes : (o : Option Cite) (c : Cite) → is_some o ≡ false → Some c ≡ first_of o (Some c)
-comes None c h = refl
-comes (Some x) c h = cc
-
 -- what stands for the key stays
-pub kept : {S : Type 0} (m : HashMap TaskKey Cite S) (w : TaskKey × Cite) → is_some (found m w.0) ≡ true → found m ≡ with_first_tree w (found m)
+kept : (m : Entries TaskKey Cite) (w : TaskKey × Cite) → is_some (found m w.0) ≡ true → found m ≡ with_first_tree w (found m)
 kept m w there = λ i k. at k (key_eq k w.0) refl i
   where
     at : (k : TaskKey) (b : Bool) → key_eq k w.0 ≡ b → found m k ≡ first_of (found m k) (cond b (Some w.1) None)
     at k true e = stays (found m k) w.1 (ap is_some (same_test k w.0 m.entries e) ∙ there)
     at k false e = sym (first_of_none (found m k))
 
--- a key that wasn't there is put in
-pub added : {S : Type 0} (m n : HashMap TaskKey Cite S) (w : TaskKey × Cite) → is_some (found m w.0) ≡ false → Updates key_eq m n w.0 (Some w.1) → found n ≡ with_first_tree w (found m)
-added m n w absent u = λ i k. (u.0 k ∙ at k (key_eq w.0 k) refl ∙ ap (λ b. first_of (found m k) (cond b (Some w.1) None)) (key_laws.symm w.0 k)) i
+lookup-append : (k : TaskKey) (xs ys : List (TaskKey × Cite)) → lookup (key_eq k) (xs ++ ys) ≡ first_of (lookup (key_eq k) xs) (lookup (key_eq k) ys)
+lookup-append k [] ys = refl
+lookup-append k (x ∷ xs) ys = by (key_eq k x.0) (lookup-append k xs ys)
   where
-    at : (k : TaskKey) (b : Bool) → key_eq w.0 k ≡ b → cond b (Some w.1) (found m k) ≡ first_of (found m k) (cond b (Some w.1) None)
-    at k true e = comes (found m k) w.1 (ap is_some (sym (same_test w.0 k m.entries e)) ∙ absent)
-    at k false e = sym (first_of_none (found m k))
+    by : (b : Bool) → lookup (key_eq k) (xs ++ ys) ≡ first_of (lookup (key_eq k) xs) (lookup (key_eq k) ys)
+        → cond b (Some x.1) (lookup (key_eq k) (xs ++ ys)) ≡ first_of (cond b (Some x.1) (lookup (key_eq k) xs)) (lookup (key_eq k) ys)
+    by true h = refl
+    by false h = h
+
+-- a key that wasn't there is put in
+pub added : (m n : Entries TaskKey Cite) (w : TaskKey × Cite) → n.entries ≡ with_entry key_eq m.entries w.0 w.1 → found n ≡ with_first_tree w (found m)
+added m n w put = ap (λ es k. lookup (key_eq k) es) put ∙ by (list_any (key_eq w.0) (keys_of m.entries)) refl
+  where
+    by : (b : Bool) → list_any (key_eq w.0) (keys_of m.entries) ≡ b → (λ k. lookup (key_eq k) (cond b m.entries (m.entries ++ w ∷ []))) ≡ with_first_tree w (found m)
+    by true among = kept m w (has_key m w.0 ∙ among)
+    by false among = λ i k. lookup-append k m.entries (w ∷ []) i
 
 -- ---- one tree for each task
 

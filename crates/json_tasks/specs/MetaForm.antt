@@ -1,9 +1,9 @@
 -- The form of what an element was rendered for.
-use Rattle.std.specs.Prelude.{ℕ, List, [], ◌∷◌, Option, Some, None, option_and_then, option_map, is_some, nat_eq, codes, if◌then◌else◌}
+use Rattle.std.specs.Prelude.{ℕ, List, [], ◌∷◌, Option, Some, None, option_map, is_some, nat_eq, codes, if◌then◌else◌}
 use Rattle.std.specs.Cmp.Lexicographic.{pointwise}
 use Rattle.json_document.specs.Entries.{person_form}
-use Rattle.serde_json.specs.Data.{Data, Items, no_items, item}
-use Rattle.serde_json.specs.Find.{get, as_array, as_str}
+use Rattle.serde_json.specs.Data.{Data}
+use Rattle.serde_json.specs.Find.{get, as_str}
 use Rattle.csl_trees.specs.declared.elem.ElemMeta.{ElemMeta}
 use Rattle.csl_values.specs.declared.entry.Person.{Person}
 use Rattle.csl_values.specs.declared.taxonomy.NameVariable.{NameVariable}

@@ -30,12 +30,12 @@ use csl_lookup::state::IdentifierUsage;
 use csl_writers::cite::Cite;
 use host_memo::key::TaskKey;
 use host_memo::table::Table;
-use indexmap::IndexMap;
 use json_styles::styles::NamedStyle;
 use json_values::error::ReadError;
 use json_values::fault::Wanted;
 use json_values::refusals::{lacking, unlike, unnamed};
 use json_values::words::{all_named, flag, list_of, name_or, object_with};
+use ordered_map::map::OrderedMap;
 use serde_json::Value;
 use std::alloc::{AllocError, Global};
 
@@ -175,13 +175,8 @@ fn agrees(table: &Table, key: &TaskKey, cite: &Cite) -> bool
 fn add(table: &mut Table, key: TaskKey, cite: Cite) -> Result<(), AllocError>
     ensures { OnOk result (found table.new ≡ with_first_tree (key, cite) (found table.old)) }
 {
-    if table.contains_key(&key) {
-        return Ok(());
-    }
-    match table.insert(key, cite) {
-        Ok(_) => Ok(()),
-        Err(_) => Err(AllocError),
-    }
+    let copy = key.clone()?;
+    table.add(key, copy, cite)
 }
 
 #[tactic(auto, using(json_values::proofs::Ways::item_there))]
@@ -191,7 +186,7 @@ fn table_of_items(alloc: Global, known: &Known<'_>, items: &[Value]) -> Result<T
         (all_items (written_form (knows known.now)) (items_view items.now))) }
     ensures fault { Faults result (array (items_view items.now)) }
 {
-    let mut table = IndexMap::new(alloc);
+    let mut table = OrderedMap::new(alloc);
     for (place, item) in items.iter().enumerate() {
         match written_of(alloc, known, item) {
             Ok((key, cite)) => {

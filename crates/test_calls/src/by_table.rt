@@ -77,7 +77,7 @@ fn recorded_by<'a, 'e: 'a>(
     way: TableWay,
 ) -> Result<Seen, RunError> {
     let answer = answered_by(rt.alloc(), asking, recorder)?;
-    let seen = by_hosts(rt, text, asking.document, &answer, &mut recorder.table, way);
+    let seen = by_hosts(rt, text, asking.document, &answer, &recorder.table, way);
     drop(answer);
     seen
 }
@@ -88,7 +88,7 @@ fn by_hosts(
     text: &str,
     document: &Document,
     answer: &Answer<'_>,
-    table: &mut Table,
+    table: &Table,
     way: TableWay,
 ) -> Result<Seen, RunError> {
     let _ = eprintln!(rt; "prepare");
@@ -102,7 +102,7 @@ fn in_styles<'d>(
     document: &'d Document,
     hosts: &'d [NamedStyle],
     answer: &Answer<'_>,
-    table: &mut Table,
+    table: &Table,
     way: TableWay,
 ) -> Result<Seen, RunError> {
     let alloc = rt.alloc();
@@ -121,7 +121,7 @@ fn from_table<'a, 'e: 'a>(
     alloc: Global,
     asking: Asking<'a, 'e>,
     answer: &Answer<'_>,
-    table: &mut Table,
+    table: &Table,
     way: TableWay,
 ) -> Result<Seen, RunError> {
     if let TableWay::Filled(times) = way {
@@ -143,7 +143,7 @@ fn from_table<'a, 'e: 'a>(
 fn take_out_and_fill<'a, 'e: 'a>(
     alloc: Global,
     asking: Asking<'a, 'e>,
-    table: &mut Table,
+    table: &Table,
     answer: &Answer<'_>,
 ) -> Result<Seen, RunError> {
     if let Seen::Amiss(what) = take_each_out(alloc, asking, table)? {

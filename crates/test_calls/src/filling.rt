@@ -15,8 +15,9 @@ use host_filling::filling::{answer_by, answer_csl_by};
 use host_memo::key::TaskKey;
 use host_memo::source::Source;
 use host_memo::table::{Table, copied};
-use indexmap::{IndexMap, IndexSet};
 use json_document::rounds::Rounds;
+use ordered_map::map::OrderedMap;
+use ordered_set::set::OrderedSet;
 use std::alloc::{AllocError, Global};
 use test_recorder::recorder::{put_in, tree_alone};
 
@@ -109,7 +110,10 @@ fn seen_of(whole: &Table, table: &Table, asked: usize, is_same: bool) -> Seen {
 
 /// Whether all that stands in one table was asked for, so that it stands in the other.
 fn has_all(whole: &Table, table: &Table) -> bool {
-    whole.keys().all(|key| table.contains_key(key))
+    whole
+        .as_slice()
+        .iter()
+        .all(|entry| table.contains_key(&entry.0))
 }
 
 /// Drives it with an empty table, and puts in what is missing, until nothing is. After three calls
@@ -121,7 +125,7 @@ pub fn drive_to_the_end<'a, 'e: 'a>(
     whole: &Table,
     answer: &Answer<'_>,
 ) -> Result<Seen, RunError> {
-    let mut table = IndexMap::new(alloc);
+    let mut table = OrderedMap::new(alloc);
     for _ in 0..calls_at_most(&answer.1) {
         match driven(alloc, asking, &table)? {
             Driven::Answer(rendered, costs) => {
@@ -134,7 +138,7 @@ pub fn drive_to_the_end<'a, 'e: 'a>(
                     Seen::Amiss("another answer once nothing is missing")
                 });
             }
-            Driven::Missing(missing) => put_missing(alloc, whole, missing, &mut table)?,
+            Driven::Missing(missing) => put_missing(alloc, whole, &missing, &mut table)?,
         }
     }
     Ok(Seen::Amiss("there is no answer after so many calls"))
@@ -144,16 +148,16 @@ pub fn drive_to_the_end<'a, 'e: 'a>(
 fn put_missing(
     alloc: Global,
     whole: &Table,
-    missing: IndexSet<TaskKey>,
+    missing: &OrderedSet<TaskKey>,
     table: &mut Table,
 ) -> Result<(), AllocError> {
     let mut source = WrittenBefore {
         table: whole,
         asked: 0,
     };
-    for key in missing {
-        let cite = source.write(alloc, &key)?;
-        put_in(table, key, cite)?;
+    for key in missing.as_slice() {
+        let cite = source.write(alloc, key)?;
+        put_in(table, key.clone()?, cite)?;
     }
     Ok(())
 }

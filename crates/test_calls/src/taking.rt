@@ -6,10 +6,11 @@ use cite_document::error::RunError;
 use csl_lookup::state::IbidState;
 use host_driver::drive::Driven;
 use host_memo::key::{TaskKey, TaskPart};
-use host_memo::table::Table;
-use indexmap::IndexSet;
+use host_memo::table::{Table, copied};
 use json_document::rounds::Rounds;
-use std::alloc::Global;
+use ordered_map::map::OrderedMap;
+use ordered_set::set::OrderedSet;
+use std::alloc::{AllocError, Global};
 use test_recorder::recorder::put_in;
 
 /// Takes each thing out of the table in turn: exactly that has to be missing, and in the mode `csl`
@@ -17,29 +18,26 @@ use test_recorder::recorder::put_in;
 pub fn take_each_out<'a, 'e: 'a>(
     alloc: Global,
     asking: Asking<'a, 'e>,
-    table: &mut Table,
+    table: &Table,
 ) -> Result<Seen, RunError> {
-    for _ in 0..table.len() {
-        if !misses_first(alloc, asking, table)? {
+    for (taken_out, _) in table.as_slice() {
+        let others = table_without(alloc, table, taken_out)?;
+        if !lacks_alone(alloc, asking, &others, taken_out)? {
             return Ok(Seen::Amiss("what was taken out isn't all that is missing"));
         }
     }
     Ok(Seen::Answer)
 }
 
-/// Whether exactly the first thing is missing once it is taken out; then it is put back, at the
-/// end.
-fn misses_first<'a, 'e: 'a>(
-    alloc: Global,
-    asking: Asking<'a, 'e>,
-    table: &mut Table,
-) -> Result<bool, RunError> {
-    let Some((key, written)) = table.shift_remove_index(0) else {
-        return Ok(false);
-    };
-    let is_missing = lacks_alone(alloc, asking, table, &key);
-    put_in(table, key, written)?;
-    is_missing
+/// The table without this thing.
+fn table_without(alloc: Global, table: &Table, taken_out: &TaskKey) -> Result<Table, AllocError> {
+    let mut others = OrderedMap::new(alloc);
+    for (key, written) in table.as_slice() {
+        if *key != *taken_out {
+            put_in(&mut others, key.clone()?, copied(written)?)?;
+        }
+    }
+    Ok(others)
 }
 
 /// Whether the table lacks this and nothing else.
@@ -53,7 +51,7 @@ fn lacks_alone<'a, 'e: 'a>(
     let lacks = match &driven {
         Driven::Answer(_, _) => false,
         Driven::Missing(missing) => match asking.document.job.rounds {
-            Rounds::Mode(_) => missing.len() == 1 && missing.contains(key),
+            Rounds::Mode(_) => missing.len() == 1 && has(missing, key),
             Rounds::Csl => lack_nothing_else(missing, key),
         },
     };
@@ -63,13 +61,18 @@ fn lacks_alone<'a, 'e: 'a>(
 
 /// Whether nothing else than this is missing, but for cites that repeat: what is written of a
 /// mention decides as what it is repeated.
-fn lack_nothing_else(missing: &IndexSet<TaskKey>, key: &TaskKey) -> bool {
-    for other in missing {
+fn lack_nothing_else(missing: &OrderedSet<TaskKey>, key: &TaskKey) -> bool {
+    for other in missing.as_slice() {
         if *other != *key && !repeats(other) {
             return false;
         }
     }
-    missing.contains(key)
+    has(missing, key)
+}
+
+/// Whether this is missing.
+fn has(missing: &OrderedSet<TaskKey>, key: &TaskKey) -> bool {
+    missing.index_of(key).is_some()
 }
 
 /// Whether a cite that repeats another is asked for.

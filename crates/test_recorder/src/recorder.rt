@@ -11,8 +11,8 @@ use csl_writers::writer::CiteWriter;
 use csl_writing::layout_writer::{LayoutWriter, NoNote};
 use host_memo::key::{TaskKey, cite_key, date_key, item_key};
 use host_memo::table::Table;
-use indexmap::IndexMap;
 use json_styles::styles::NamedStyle;
+use ordered_map::map::OrderedMap;
 use std::alloc::{AllocError, Global};
 
 /// Writes by the layouts of styles, and puts what it writes into a table, under the names that a
@@ -34,18 +34,10 @@ fn name_of<'s>(styles: &'s [NamedStyle], style: &IndependentStyle) -> &'s str {
     ""
 }
 
-/// Puts what was written into a table.
+/// Puts what was written into a table, unless something is there for it.
 pub fn put_in(table: &mut Table, key: TaskKey, written: Cite) -> Result<(), AllocError> {
-    match table.insert(key, written) {
-        Ok(before) => {
-            drop(before);
-            Ok(())
-        }
-        Err(refused) => {
-            drop(refused);
-            Err(AllocError)
-        }
-    }
+    let copy = key.clone()?;
+    table.add(key, copy, written)
 }
 
 /// A tree by itself, as what was written.
@@ -64,7 +56,7 @@ impl<'s> Recorder<'s> {
         Recorder {
             layouts: LayoutWriter::new(),
             styles,
-            table: IndexMap::new(alloc),
+            table: OrderedMap::new(alloc),
         }
     }
 

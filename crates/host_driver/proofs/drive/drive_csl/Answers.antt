@@ -1,4 +1,5 @@
-use Rattle.std.proofs.Common.{length, ap, subst, ◌∙◌}
+use Rattle.std.proofs.Common.{length, ap, subst, sym, ◌∙◌}
+use Rattle.std.specs.Prelude.{◌==◌}
 use Rattle.host_driver.specs.Driven.{IsCslLacking, IsCslWhole, csl_asked_for_all}
 use Rattle.host_driver.proofs.AllNamed.{all-named, earliest}
 use Rattle.csl_driver.specs.JobView.{job_of}
@@ -23,7 +24,7 @@ returns-then-is_empty-clause-driven g c =
     c.new-writer.ensures.table (record {
       possible = c.in_ok-rendered.ensures.finished.possible;
       answer = c.in_ok-rendered.ensures.finished.answer tt tt;
-      there = all-there table answers all missing noted (empty missing (c.is_empty.ensures.0 c.if-is_empty.true));
+      there = all-there table answers all missing noted (empty missing (sym c.is_empty.ensures ∙ c.if-is_empty.true));
     })
 
 pub returns-clause-driven : goal.returns-clause-driven
@@ -39,7 +40,7 @@ returns-clause-driven g c =
     c.new-writer.ensures.table (record {
       possible = c.in_ok-rendered.ensures.finished.possible;
       each = all-missing table answers all missing noted;
-      some = λ e. clash (c.is_empty.ensures.1 (ap length e)) c.if-is_empty.false;
+      some = λ e. clash (ap (λ ks. length ks == 0) e) (sym c.is_empty.ensures ∙ c.if-is_empty.false);
       earliest = earliest table answers all missing noted c.key_equality_decides.ensures.key;
       all = all-named table answers all missing noted c.key_equality_decides.ensures.key;
     })
