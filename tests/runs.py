@@ -58,6 +58,11 @@ def at_most(memory):
     return lambda: resource.setrlimit(resource.RLIMIT_AS, (memory, memory))
 
 
+def with_stack(size):
+    """What a process calls before it starts, so that its stack gets no larger than this."""
+    return lambda: resource.setrlimit(resource.RLIMIT_STACK, (size, size))
+
+
 # Memory
 
 

@@ -33,6 +33,11 @@ def deep(groups, element):
     return '<group>' * groups + element + '</group>' * groups
 
 
+def inside(count, begin, end):
+    """A style whose text is in as many elements that begin and end so."""
+    return layout(begin * count + texts(1) + end * count)
+
+
 def locale(body):
     return LOCALE + body + '</locale>\n'
 
@@ -265,6 +270,15 @@ ALLOWED = {
         deep(249, '<text macro="m1"/>'), deep(249, '<text macro="m2"/>'), deep(249, '<text macro="m3"/>'), deep(249, texts(1))
     ),
     'macros that are called before they are told, and twice': macros('<text macro="m1"/><text macro="m2"/>' * 2, '<text macro="m2"/>', texts(1)),
+}
+
+
+# Styles whose elements nest as deep as is read.
+DEEPEST = {
+    'groups': inside(252, '<group>', '</group>'),
+    'conditions': inside(126, '<choose><if type="book">', '</if></choose>'),
+    'what else is written': inside(126, '<choose><if type="book"/><else>', '</else></choose>'),
+    'substitutes': inside(126, '<names variable="author"><substitute>', '</substitute></names>'),
 }
 
 

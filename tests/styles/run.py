@@ -6,13 +6,14 @@ Each file of documents/, and of Debian's packages citation-style-language-styles
 citation-style-language-locales, is read, with no warning but those of EXPLAINED, and says what it
 says by xml.etree (said.py: each element with all its values); packages that aren't installed are
 named. So do files with all names of CSL 1.0.2 (tests/csl_names.py). The files of broken.py are
-refused, or warned of, at their places and in their words, or just allowed. N files
-(3000, if not said) are made by changes of others, drawn by the seed: each is refused at a place of
-the text, or read; with no warning it says what it says by xml.etree. Each growth of memory is
-refused in turn (tests/documents/refuse.c, for which a C compiler must be there). Four times as much
-takes about four times as long, and the packages' files take at most 1.5 times as long as xml.etree
-takes for their trees: processor times, each the least of three, measured anew before one is too
-long. The last line is 'N passed, M failed', and the exit status is 1 where a test failed."""
+refused, or warned of, at their places and in their words, or just allowed, and read in 1 MiB of
+stack where they nest as deep as is read. N files (3000, if not said) are made by changes of others,
+drawn by the seed: each is refused at a place of the text, or read; with no warning it says what it
+says by xml.etree. Each growth of memory is refused in turn (tests/documents/refuse.c, for which a C
+compiler must be there). Four times as much takes about four times as long, and the packages' files
+take at most 1.5 times as long as xml.etree takes for their trees: processor times, each the least
+of three, measured anew before one is too long. The last line is 'N passed, M failed', and the exit
+status is 1 where a test failed."""
 import argparse
 import collections
 import glob
@@ -31,7 +32,7 @@ sys.path.append(os.path.dirname(HERE))
 
 import csl_names
 import runs
-from broken import ALLOWED, REFUSED, SEVERAL, WARNED, all_placed, placed
+from broken import ALLOWED, DEEPEST, REFUSED, SEVERAL, WARNED, all_placed, placed
 from colliding import LENGTH, colliding
 from mutated import mutated_documents
 from runs import ATTEMPTS, Failed, processor_time, read
@@ -43,6 +44,7 @@ PACKAGES = {'styles': '*.csl', 'locales': '*.xml'}
 EXPLAINED = {}
 NAMED = re.compile('`[^`]*`')
 MOST_MEMORY = 1 << 30
+MOST_STACK = 1 << 20
 SECONDS = 120
 BATCH = 2000
 # What can be told from nothing, in seconds.
@@ -169,6 +171,14 @@ def allowed(programs):
     for (name, document), answer in zip(ALLOWED.items(), answers(programs, [it.encode() for it in ALLOWED.values()])):
         if answer.fault or answer.warnings:
             raise Failed('%s: %s %s' % (name, answer.fault, answer.warnings))
+
+
+def deepest(programs):
+    """Elements that nest as deep as is read need half of the stack that the library asks for."""
+    for name, document in DEEPEST.items():
+        status, out, _ = ended(programs.test_readers, [document.encode()], 'count', preexec_fn=runs.with_stack(MOST_STACK))
+        if (status, out) != (0, b'1\n'):
+            raise Failed('%s: status %d, and %r' % (name, status, out))
 
 
 def names_of_csl(programs):
@@ -370,6 +380,7 @@ def tests_of(given):
     tests.append(('files that are refused', broken))
     tests.append(('files with warnings', warned))
     tests.append(('files that the limits just allow', allowed))
+    tests.append(('files that nest as deep as is read', deepest))
     tests.append(('names of CSL', names_of_csl))
     tests.append(('gamhilon check', program))
     tests.append(('several faults', several))
