@@ -145,9 +145,9 @@ uint32_t gamhilon_render_json(const uint8_t *document, size_t document_length,
  * Answers may be longer than the texts: a first buffer of 64 KiB and eight times the length of
  * items and citations together will mostly do.
  *
- * Give a thread that calls 2 MiB of stack. Of 300 published styles the deepest take 111 KiB. No
- * style file needs more than 2 MiB: its elements nest at most 256 deep, and its macros call one
- * another at most 1,000 deep. */
+ * Give a thread that calls 2 MiB of stack. Of 300 published styles the deepest take 111 KiB. Style
+ * files that nest as deep as is read (256 elements, or 1,000 macros that call one another) are
+ * tried in these 2 MiB. */
 
 /* Writes the citations and the bibliography, as JSON (docs/ANSWER.md). In a style of notes each
  * citation has the number of its note. Quotes have their marks as text. Of what an element was
