@@ -1,67 +1,79 @@
--- The code's map from keys to places.
-use Rattle.std.proofs.Common.{◌≡◌, ℕ, zero, suc, ◌+◌, ◌<◌, ◌≤◌, Bool, true, false, cond, not, nat_lt, Some, None, List, [], ◌∷◌, ◌++◌, map, length, take, get_or, slice_get, refl, ap, ◌∙◌, sym, arith}
-use Rattle.std.specs.Prelude.{Vec}
-use Rattle.std.specs.List.{enumerate_from, position_or_len}
-use Rattle.std.specs.Map.{keys_of}
+-- The code's blocks by their keys.
+use Rattle.std.proofs.Common.{◌≡◌, ℕ, zero, suc, ◌+◌, ◌<◌, ◌≤◌, Bool, true, false, cond, not, nat_lt, Some, None, List, [], ◌∷◌, ◌++◌, map, length, take, get_or, refl, ap, ◌∙◌, sym, arith}
+use Rattle.std.specs.Prelude.{Option, Vec}
+use Rattle.std.specs.List.{enumerate_from, position, position_or_len}
 use Rattle.std.proofs.lemmas.Bool.Decides.{nat_tests}
 use Rattle.std.proofs.lemmas.List.{map-append, take_more}
 use Rattle.std.proofs.lemmas.Grind.{common_steps}
-use Rattle.std.proofs.Math.ListN.{length-map}
-use Rattle.indexmap.specs.IndexMap.{insert_entry, set_value_at}
+use Rattle.std.proofs.Math.ListN.{length-map, set}
+use Rattle.ordered_set.specs.Keys.{with_key}
+use Rattle.ordered_set.proofs.Adding.{with-new}
 use Rattle.csl_passes.specs.Renders.{ItemRender}
 use Rattle.csl_grouping.specs.BlockKeys.{BlockKey, key_of, same_key}
-use Rattle.csl_grouping.specs.Steps.{blocks_of, blocks_view, key_view, with_place}
+use Rattle.csl_grouping.specs.Steps.{blocks_of, keyed, key_view, with_place}
+use Rattle.csl_grouping.specs.contracts.blocks.KeyPartialEq.TheImpl as key_eq
 use Rattle.csl_grouping.specs.declared.blocks.Key.{Key}
 use Rattle.csl_grouping.proofs.Classes.{added, classes, classes-push}
-use Rattle.csl_grouping.specs.KeyLaws.{key_laws, same}
+use Rattle.csl_grouping.proofs.KeyLaws.{key_laws, same, test_is}
 
 module _ {A : Type 0} (key : Key) (k : ℕ) where
   -- a place is pushed in the block at i, which is that of the key
-  pub pushed : (es : List (Key × Vec ℕ A)) (i : ℕ) (v w : Vec ℕ A) → i ≡ position_or_len (same key) (keys_of es) → slice_get (map (λ e. e.1) es) i ≡ Some v
-      → w.items ≡ v.items ++ k ∷ [] → blocks_view (set_value_at es i w) ≡ with_place (blocks_view es) (key_view key) k
-  pushed [] i v w p at e = cc
-  pushed (x ∷ es) zero v w p at e = by (same key x.0) refl p
+  pub pushed : (ks : List Key) (ps : List (Vec ℕ A)) (i : ℕ) (v w : Vec ℕ A) → length ks ≡ length ps → i ≡ position_or_len (same key) ks → i < length ks
+      → v ≡ get_or ps i v → w.items ≡ v.items ++ k ∷ [] → keyed ks (set ps i w) ≡ with_place (keyed ks ps) (key_view key) k
+  pushed [] ps i v w l p h at e = absurd (omega (arith, h))
+  pushed (x ∷ ks) [] i v w l p h at e = absurd (omega (arith, l))
+  pushed (x ∷ ks) (q ∷ ps) zero v w l p h at e = by (same key x) refl p
     where
-      held : (a b : Vec ℕ A) → Some a ≡ Some b → a ≡ b
-      held a b q = cc
-
-      by : (b : Bool) → same key x.0 ≡ b → zero ≡ cond (not b) (1 + position_or_len (same key) (keys_of es)) 0
-          → ((key_view x.0, w.items) ∷ blocks_view es) ≡ with_place (blocks_view (x ∷ es)) (key_view key) k
-      by true q p = rw (q) (ap (λ ps. (key_view x.0, ps) ∷ blocks_view es) (e ∙ ap (λ u. u.items ++ k ∷ []) (sym (held x.1 v at))))
-      by false q p = absurd (omega arith)
-  pushed (x ∷ es) (suc i) v w p at e = by (same key x.0) refl p (pushed es i v w)
+      by : (b : Bool) → same key x ≡ b → zero ≡ cond (not b) (1 + position_or_len (same key) ks) 0
+          → ((key_view x, w.items) ∷ keyed ks ps) ≡ with_place (keyed (x ∷ ks) (q ∷ ps)) (key_view key) k
+      by true t p = rw (t) (ap (λ ns. (key_view x, ns) ∷ keyed ks ps) (e ∙ ap (λ u. u.items ++ k ∷ []) at))
+      by false t p = absurd (omega (arith, p))
+  pushed (x ∷ ks) (q ∷ ps) (suc i) v w l p h at e = by (same key x) refl p (pushed ks ps i v w (omega (arith, l)))
     where
-      by : (b : Bool) → same key x.0 ≡ b → suc i ≡ cond (not b) (1 + position_or_len (same key) (keys_of es)) 0
-          → (i ≡ position_or_len (same key) (keys_of es) → slice_get (map (λ e. e.1) es) i ≡ Some v → w.items ≡ v.items ++ k ∷ [] → blocks_view (set_value_at es i w) ≡ with_place (blocks_view es) (key_view key) k)
-          → ((key_view x.0, x.1.items) ∷ blocks_view (set_value_at es i w)) ≡ with_place (blocks_view (x ∷ es)) (key_view key) k
-      by true q p r = absurd (omega arith)
-      by false q p r = rw (q) (ap (λ bs. (key_view x.0, x.1.items) ∷ bs) (r (omega arith) at e))
+      by : (b : Bool) → same key x ≡ b → suc i ≡ cond (not b) (1 + position_or_len (same key) ks) 0
+          → (i ≡ position_or_len (same key) ks → i < length ks → v ≡ get_or ps i v → w.items ≡ v.items ++ k ∷ [] → keyed ks (set ps i w) ≡ with_place (keyed ks ps) (key_view key) k)
+          → ((key_view x, q.items) ∷ keyed ks (set ps i w)) ≡ with_place (keyed (x ∷ ks) (q ∷ ps)) (key_view key) k
+      by true t p r = absurd (omega (arith, p))
+      by false t p r = rw (t) (ap (λ bs. (key_view x, q.items) ∷ bs) (r (omega (arith, p)) (omega (arith, h)) at e))
 
   -- a new block comes last
-  pub inserted : (es : List (Key × Vec ℕ A)) (v : Vec ℕ A) → length (keys_of es) ≤ position_or_len (same key) (keys_of es) → v.items ≡ k ∷ []
-      → blocks_view (insert_entry same es key v) ≡ with_place (blocks_view es) (key_view key) k
-  inserted [] v h e = ap (λ ps. (key_view key, ps) ∷ []) e
-  inserted (x ∷ es) v h e = by (same key x.0) refl h (inserted es v)
+  pub inserted : (ks : List Key) (ps : List (Vec ℕ A)) (w : Vec ℕ A) → length ks ≡ length ps → length ks ≤ position_or_len (same key) ks → w.items ≡ k ∷ []
+      → keyed (ks ++ key ∷ []) (ps ++ w ∷ []) ≡ with_place (keyed ks ps) (key_view key) k
+  inserted [] [] w l h e = ap (λ ns. (key_view key, ns) ∷ []) e
+  inserted [] (q ∷ ps) w l h e = absurd (omega (arith, l))
+  inserted (x ∷ ks) [] w l h e = absurd (omega (arith, l))
+  inserted (x ∷ ks) (q ∷ ps) w l h e = by (same key x) refl h (inserted ks ps w (omega (arith, l)))
     where
-      by : (b : Bool) → same key x.0 ≡ b → suc (length (keys_of es)) ≤ cond (not b) (1 + position_or_len (same key) (keys_of es)) 0
-          → (length (keys_of es) ≤ position_or_len (same key) (keys_of es) → v.items ≡ k ∷ [] → blocks_view (insert_entry same es key v) ≡ with_place (blocks_view es) (key_view key) k)
-          → blocks_view (cond b ((x.0, v) ∷ es) (x ∷ insert_entry same es key v)) ≡ with_place (blocks_view (x ∷ es)) (key_view key) k
-      by true q h r = absurd (omega arith)
-      by false q h r = rw (q) (ap (λ bs. (key_view x.0, x.1.items) ∷ bs) (r (omega arith) e))
+      by : (b : Bool) → same key x ≡ b → suc (length ks) ≤ cond (not b) (1 + position_or_len (same key) ks) 0
+          → (length ks ≤ position_or_len (same key) ks → w.items ≡ k ∷ [] → keyed (ks ++ key ∷ []) (ps ++ w ∷ []) ≡ with_place (keyed ks ps) (key_view key) k)
+          → ((key_view x, q.items) ∷ keyed (ks ++ key ∷ []) (ps ++ w ∷ [])) ≡ with_place (keyed (x ∷ ks) (q ∷ ps)) (key_view key) k
+      by true t h r = absurd (omega (arith, h))
+      by false t h r = rw (t) (ap (λ bs. (key_view x, q.items) ∷ bs) (r (omega (arith, h)) e))
 
-pub found-at : (n len i : ℕ) → Some i ≡ cond (nat_lt n len) (Some n) None → i ≡ n
-found-at n len i h = by (nat_lt n len) h
+found-at : (n len i : ℕ) → Some i ≡ cond (nat_lt n len) (Some n) None → (i ≡ n) × (i < len)
+found-at n len i h = by (nat_lt n len) refl h
   where
-    by : (b : Bool) → Some i ≡ cond b (Some n) None → i ≡ n
-    by true h = cc
-    by false h = cc
+    by : (b : Bool) → nat_lt n len ≡ b → Some i ≡ cond b (Some n) None → (i ≡ n) × (i < len)
+    by true t h = let e : i ≡ n = cc in (e, grind (arith, nat_tests))
+    by false t h = cc
 
-pub missing-at : (n len : ℕ) → None ≡ cond (nat_lt n len) (Some n) None → len ≤ n
+missing-at : (n len : ℕ) → None ≡ cond (nat_lt n len) (Some n) None → len ≤ n
 missing-at n len h = by (nat_lt n len) refl h
   where
     by : (b : Bool) → nat_lt n len ≡ b → None ≡ cond b (Some n) None → len ≤ n
     by true t h = cc
     by false t h = grind (arith, nat_tests)
+
+-- the index at which the code finds a key
+pub found-key : (key : Key) (ks : List Key) (r : Option ℕ) (i : ℕ) → r ≡ position ((key_eq.ghosts).eq key) ks → r ≡ Some i → (i ≡ position_or_len (same key) ks) × (i < length ks)
+found-key key ks r i e h = found-at (position_or_len (same key) ks) (length ks) i (sym h ∙ e ∙ ap (λ t. position t ks) (test_is key))
+
+-- and where it finds none
+pub missing-key : (key : Key) (ks : List Key) (r : Option ℕ) → r ≡ position ((key_eq.ghosts).eq key) ks → r ≡ None → length ks ≤ position_or_len (same key) ks
+missing-key key ks r e h = missing-at (position_or_len (same key) ks) (length ks) (sym h ∙ e ∙ ap (λ t. position t ks) (test_is key))
+
+pub keys-after : (key : Key) (ks new : List Key) (r : Option ℕ) → r ≡ position ((key_eq.ghosts).eq key) ks → r ≡ None → new ≡ with_key (key_eq.ghosts).eq ks key → new ≡ ks ++ key ∷ []
+keys-after key ks new r e h n = n ∙ sym (with-new (key_eq.ghosts).eq ks key (sym e ∙ h))
 
 length-take-at : {X : Type 0} (k : ℕ) (xs : List X) → k < length xs → length (take k xs) ≡ k
 length-take-at k xs h = grind (arith, common_steps)

@@ -1,4 +1,6 @@
 pub mod Classes
+pub mod NamesSeen
+pub mod KeyLaws
 pub mod Entries
 pub mod Marks
 pub mod OrderLaws

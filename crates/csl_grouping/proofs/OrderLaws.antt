@@ -13,7 +13,7 @@ use Rattle.csl_entries.proofs.Distinct.{is_in-distinct}
 use Rattle.csl_passes.specs.Renders.{ItemRender}
 use Rattle.csl_grouping.specs.BlockKeys.{BlockKey, named, alone, key_of, same_key}
 use Rattle.csl_grouping.specs.Blocks.{block, block_index, block_keys, final_order, grouped_cites, in_block, with_block}
-use Rattle.csl_grouping.specs.KeyLaws.{equal, key_laws}
+use Rattle.csl_grouping.proofs.KeyLaws.{equal, key_laws}
 use Rattle.csl_grouping.specs.Laws.{IsInFinalOrder, StandsTogether, bare, places_with}
 use Rattle.csl_grouping.proofs.Classes.{no-members}
 use Rattle.csl_grouping.proofs.Whole.{Every, every-filter, every-flat}

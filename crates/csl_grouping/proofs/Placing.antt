@@ -1,8 +1,8 @@
 -- Where the cites of blocks go, as they are pushed one after another.
-use Rattle.std.proofs.Common.{◌≡◌, ℕ, ◌+◌, ◌<◌, ◌≤◌, Bool, true, false, List, [], ◌∷◌, ◌++◌, drop, zero, suc, take, length, Some, None, slice_get, arith, get_or, refl, ap, ◌∙◌, sym, append_assoc}
+use Rattle.std.proofs.Common.{◌≡◌, ℕ, ◌+◌, ◌<◌, ◌≤◌, Bool, true, false, List, [], ◌∷◌, ◌++◌, drop, take, length, Some, None, arith, get_or, refl, ap, ◌∙◌, sym, append_assoc}
 use Rattle.std.specs.Prelude.{Option, Vec, if◌then◌else◌}
-use Rattle.std.proofs.lemmas.List.{take_more, map-append}
-use Rattle.csl_grouping.specs.Steps.{blocks_view, key_view, placed_block, placed_blocks}
+use Rattle.std.proofs.lemmas.List.{drop_more, take_more, map-append}
+use Rattle.csl_grouping.specs.Steps.{keyed, key_view, placed_block, placed_blocks}
 use Rattle.csl_grouping.specs.BlockKeys.{is_named}
 use Rattle.csl_grouping.specs.declared.blocks.Key.{Key}
 use Rattle.csl_grouping.specs.declared.blocks.Placed.{Placed}
@@ -31,20 +31,24 @@ block-more group places i x before now more follows w h n f m =
       more-of (take i places) x ∙ ap is_more (sym front),
     )
 
-drop-at : {X : Type 0} (xs : List X) (b : ℕ) (x : X) → Some x ≡ slice_get xs b → drop b xs ≡ x ∷ drop (b + 1) xs
-drop-at [] b x h = cc
-drop-at (y ∷ ys) zero x h = let e : x ≡ y = cc in ap (λ z. z ∷ ys) (sym e)
-drop-at (y ∷ ys) (suc b) x h = let e : suc (b + 1) ≡ suc b + 1 = omega arith in drop-at ys b x h ∙ ap (λ n. x ∷ drop n (y ∷ ys)) e
+-- the blocks from the next one on
+blocks-here : {A : Type 0} (ks : List Key) (ps : List (Vec ℕ A)) (b : ℕ) (x : Key) (p : Vec ℕ A) → b < length ks → length ks ≡ length ps → x ≡ get_or ks b x → p ≡ get_or ps b p
+    → keyed (drop b ks) (drop b ps) ≡ (key_view x, p.items) ∷ keyed (drop (b + 1) ks) (drop (b + 1) ps)
+blocks-here ks ps b x p w l k q =
+    let keys = drop_more ks b x w ∙ ap (λ y. y ∷ drop (b + 1) ks) (sym k) in
+    let places = drop_more ps b p (omega (arith, w, l)) ∙ ap (λ y. y ∷ drop (b + 1) ps) (sym q) in
+    λ i. keyed (keys i) (places i)
 
 -- one more block
-pub blocks-more : {A : Type 0} (es : List (Key × Vec ℕ A)) (b next n : ℕ) (e : Key × Vec ℕ A) (order more all : List Placed) → Some e ≡ slice_get es b
-    → order ++ placed_blocks next (blocks_view (drop b es)) ≡ all
-    → more ≡ order ++ placed_block (if is_named (key_view e.0) then Some next else None) e.1.items → n ≡ (if is_named (key_view e.0) then next + 1 else next)
-    → more ++ placed_blocks n (blocks_view (drop (b + 1) es)) ≡ all
-blocks-more es b next n e order more all at h m q =
-    (λ i. m i ++ placed_blocks (q i) (blocks_view (drop (b + 1) es)))
-    ∙ append_assoc order (placed_block (if is_named (key_view e.0) then Some next else None) e.1.items) (placed_blocks (if is_named (key_view e.0) then next + 1 else next) (blocks_view (drop (b + 1) es)))
-    ∙ ap (λ xs. order ++ placed_blocks next (blocks_view xs)) (sym (drop-at es b e at)) ∙ h
+pub blocks-more : {A : Type 0} (ks : List Key) (ps : List (Vec ℕ A)) (b next n : ℕ) (x : Key) (p : Vec ℕ A) (order more all : List Placed) → b < length ks → length ks ≡ length ps
+    → x ≡ get_or ks b x → p ≡ get_or ps b p → order ++ placed_blocks next (keyed (drop b ks) (drop b ps)) ≡ all
+    → more ≡ order ++ placed_block (if is_named (key_view x) then Some next else None) p.items → n ≡ (if is_named (key_view x) then next + 1 else next)
+    → more ++ placed_blocks n (keyed (drop (b + 1) ks) (drop (b + 1) ps)) ≡ all
+blocks-more ks ps b next n x p order more all w l k q h m e =
+    let rest = keyed (drop (b + 1) ks) (drop (b + 1) ps) in
+    (λ i. m i ++ placed_blocks (e i) rest)
+    ∙ append_assoc order (placed_block (if is_named (key_view x) then Some next else None) p.items) (placed_blocks (if is_named (key_view x) then next + 1 else next) rest)
+    ∙ ap (λ bs. order ++ placed_blocks next bs) (sym (blocks-here ks ps b x p w l k q)) ∙ h
 
 pub next-bound : (t : Bool) (next b n : ℕ) → n ≡ (if t then next + 1 else next) → next ≤ b → n ≤ b + 1
 next-bound true next b n e h = omega arith

@@ -16,7 +16,7 @@ use Rattle.csl_grouping.specs.Moves.{IsPicked}
 use Rattle.csl_grouping.specs.Steps.{all_marked, blocks_of, marked_in_block, placed_block, placed_blocks}
 use Rattle.csl_grouping.specs.declared.blocks.Placed.{Placed}
 use Rattle.csl_grouping.proofs.Classes.{classes-permuted, numbers}
-use Rattle.csl_grouping.specs.KeyLaws.{key_laws}
+use Rattle.csl_grouping.proofs.KeyLaws.{key_laws}
 
 -- of each member
 abbrev pub Every : {X : Type 0} → (X → Type 0) → List X → Type 0

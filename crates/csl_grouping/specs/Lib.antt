@@ -1,7 +1,11 @@
 pub mod BlockKeys
 pub mod Blocks
+pub mod Tokens
+pub mod TokenView
+pub mod SameTokens
+pub mod NamesOrder
+pub mod NamesLaws
 pub mod Steps
 pub mod Moves
-pub mod KeyLaws
 pub mod Laws
 pub mod FinalOrder

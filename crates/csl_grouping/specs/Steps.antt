@@ -1,23 +1,30 @@
 -- For the code: blocks as lists of places, and where each cite goes.
-use Rattle.std.specs.Prelude.{ℕ, ◌+◌, true, false, List, [], ◌∷◌, ◌++◌, Option, None, Some, if◌then◌else◌, map}
+use Rattle.std.specs.Prelude.{◌≡◌, ℕ, ◌+◌, true, false, List, [], ◌∷◌, ◌++◌, Option, None, Some, if◌then◌else◌, length, map, vec_len}
 use Rattle.csl_passes.specs.Renders.{ItemRender}
 use Rattle.csl_grouping.specs.BlockKeys.{BlockKey, named, alone, is_named, same_key}
 use Rattle.csl_grouping.specs.Blocks.{block, block_keys, with_block}
+use Rattle.csl_grouping.specs.declared.blocks.Blocks.{Blocks}
 use Rattle.csl_grouping.specs.declared.blocks.Key.{Key}
 use Rattle.csl_grouping.specs.declared.blocks.Key.TheVariants as key
 use Rattle.csl_grouping.specs.declared.blocks.Placed.{Placed}
 use Rattle.std.specs.declared.vec.Vec.{Vec}
 
 abbrev pub key_view : Key → BlockKey
-key_view (key.Named names) = named names.now
+key_view (key.Named names) = named names
 key_view (key.Alone k) = alone k
 
-module _ {A : Type 0} where
-  abbrev pub entry_view : Key × Vec ℕ A → BlockKey × List ℕ
-  entry_view e = (key_view e.0, e.1.items)
+-- keys, each with the places of its block
+abbrev pub keyed : {A : Type 0} → List Key → List (Vec ℕ A) → List (BlockKey × List ℕ)
+keyed [] ps = []
+keyed (k ∷ ks) [] = []
+keyed (k ∷ ks) (p ∷ ps) = (key_view k, p.items) ∷ keyed ks ps
 
-  abbrev pub blocks_view : List (Key × Vec ℕ A) → List (BlockKey × List ℕ)
-  blocks_view = map entry_view
+abbrev pub blocks_view : Blocks → List (BlockKey × List ℕ)
+blocks_view blocks = keyed blocks.keys.keys blocks.places.items
+
+-- each key has its places
+abbrev pub IsPaired : Blocks → Type 0
+IsPaired blocks = length blocks.keys.keys ≡ vec_len blocks.places
 
 -- a place added to the block of its key, which comes last where there is none
 abbrev pub with_place : List (BlockKey × List ℕ) → BlockKey → ℕ → List (BlockKey × List ℕ)

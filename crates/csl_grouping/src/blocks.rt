@@ -3,6 +3,7 @@ ghost use Rattle.std.specs.Prelude.{◌≡◌, ◌+◌, ◌<◌, ◌++◌, None,
 ghost use Rattle.csl_passes.specs.RendersView.{item_view, items_view};
 ghost use Rattle.csl_grouping.specs.BlockKeys.{is_named, key_of};
 ghost use Rattle.csl_grouping.specs.Steps.{
+  IsPaired,
   blocks_of,
   blocks_view,
   key_view,
@@ -11,57 +12,27 @@ ghost use Rattle.csl_grouping.specs.Steps.{
   with_place,
 };
 
-use csl_base::elem::Elem;
+use crate::tokens::Names;
 use csl_passes::renders::SpeculativeItemRender;
-use indexmap::IndexMap;
+use ordered_set::set::OrderedSet;
 use std::alloc::{AllocError, Global};
-use std::hash::{Hash, Hasher};
 
 /// What the cites of a block have in common.
-#[derive(Drop)]
-pub(crate) enum Key<'r> {
+#[derive(PartialEq, Eq, PartialOrd, Ord, Drop)]
+enum Key<'r> {
     /// The first names element.
-    Named(&'r Elem),
+    Named(Names<'r>),
     /// A cite without names, by its index.
     Alone(usize),
 }
 
-impl PartialEq for Key<'_> {
-    ghost use Rattle.std.specs.Cmp.{partial_equiv_from_equiv};
-    ghost use Rattle.csl_grouping.specs.KeyLaws.{same, same_laws};
-
-    ghost eq = { same };
-
-    ghost laws = { partial_equiv_from_equiv same_laws };
-
-    fn eq(&self, other: &Self) -> bool {
-        match (self, other) {
-            (Key::Named(names), Key::Named(others)) => *names == *others,
-            (Key::Alone(place), Key::Alone(other)) => *place == *other,
-            _ => false,
-        }
-    }
-}
-
-impl Eq for Key<'_> {
-    ghost use Rattle.csl_grouping.specs.KeyLaws.{same_laws};
-
-    ghost laws = { same_laws };
-}
-
-impl Hash for Key<'_> {
-    ghost use Rattle.csl_grouping.specs.KeyLaws.{fed_alike, key_fed};
-
-    ghost hash_input = { λ key. key_fed (key_view key) };
-
-    ghost respects_eq = { fed_alike };
-
-    fn hash<H: Hasher>(&self, state: &mut H) {
-        match self {
-            Key::Named(names) => names.hash(state),
-            Key::Alone(place) => place.hash(state),
-        }
-    }
+/// Blocks, in the order of their first cites.
+#[derive(Drop)]
+struct Blocks<'r> {
+    /// The key of each.
+    keys: OrderedSet<Key<'r>>,
+    /// The places of the cites of each.
+    places: Vec<Vec<usize>>,
 }
 
 /// A cite in its block.
@@ -76,35 +47,49 @@ pub(crate) struct Placed {
 }
 
 /// The key of the cite at index k.
-fn key_of<'r, T, P>(cite: &'r SpeculativeItemRender<'_, T, P>, k: usize) -> Key<'r>
-    ensures { key_view result ≡ key_of k (item_view cite.now) }
+fn key_of<'r, T, P>(
+    alloc: Global,
+    cite: &'r SpeculativeItemRender<'_, T, P>,
+    k: usize,
+) -> Result<Key<'r>, AllocError>
+    ensures { IfOk result (λ key. key_view key ≡ key_of k (item_view cite.now)) }
 {
     match cite.rendered.find_names() {
-        Some(names) => Key::Named(names),
-        None => Key::Alone(k),
+        Some(names) => Ok(Key::Named(Names::new(alloc, names)?)),
+        None => Ok(Key::Alone(k)),
+    }
+}
+
+/// A key once more.
+fn copied<'r>(alloc: Global, key: &Key<'r>) -> Result<Key<'r>, AllocError>
+    ensures { IfOk result (λ k. k ≡ key.now) }
+{
+    match key {
+        Key::Named(names) => Ok(Key::Named(names.copied(alloc)?)),
+        Key::Alone(place) => Ok(Key::Alone(*place)),
     }
 }
 
 /// Adds the cite at index k to the block of its key.
 fn add_place<'r>(
     alloc: Global,
-    blocks: &mut IndexMap<Key<'r>, Vec<usize>>,
+    blocks: &mut Blocks<'r>,
     key: Key<'r>,
     k: usize,
 ) -> Result<(), AllocError>
-    ensures { OnOk result (blocks_view blocks.new.entries
-        ≡ with_place (blocks_view blocks.old.entries) (key_view key.entry) k) }
+    requires { IsPaired blocks.old }
+    ensures paired { OnOk result (IsPaired blocks.new) }
+    ensures added { OnOk result (blocks_view blocks.new
+        ≡ with_place (blocks_view blocks.old) (key_view key.entry) k) }
 {
-    match blocks.get_index_of(&key) {
-        Some(i) => {
-            if let Some(places) = blocks.get_index_mut(i) {
-                places.push(k)?;
-            }
-        }
+    match blocks.keys.index_of(&key) {
+        Some(i) => blocks.places[i].push(k)?,
         None => {
+            let copy = copied(alloc, &key)?;
             let mut places = Vec::new(alloc);
             places.push(k)?;
-            blocks.insert(key, places)?;
+            blocks.places.push(places)?;
+            blocks.keys.insert(key, copy)?;
         }
     }
     Ok(())
@@ -114,13 +99,17 @@ fn add_place<'r>(
 fn blocks_of<'r, T, P>(
     alloc: Global,
     items: &'r [SpeculativeItemRender<'_, T, P>],
-) -> Result<IndexMap<Key<'r>, Vec<usize>>, AllocError>
-    ensures { IfOk result
-        (λ blocks. blocks_view blocks.entries ≡ blocks_of (items_view items.now)) }
+) -> Result<Blocks<'r>, AllocError>
+    ensures paired { IfOk result (λ blocks. IsPaired blocks) }
+    ensures blocks { IfOk result (λ blocks. blocks_view blocks ≡ blocks_of (items_view items.now)) }
 {
-    let mut blocks = IndexMap::new(alloc);
+    let mut blocks = Blocks {
+        keys: OrderedSet::new(alloc),
+        places: Vec::new(alloc),
+    };
     for (k, cite) in items.iter().enumerate() {
-        add_place(alloc, &mut blocks, key_of(cite, k), k)?;
+        let key = key_of(alloc, cite, k)?;
+        add_place(alloc, &mut blocks, key, k)?;
     }
     Ok(blocks)
 }
@@ -172,19 +161,15 @@ fn push_named(
 }
 
 /// Where the cites of these blocks go, one block after another.
-fn order_of(
-    alloc: Global,
-    blocks: &IndexMap<Key<'_>, Vec<usize>>,
-    count: usize,
-) -> Result<Vec<Placed>, AllocError>
-    ensures { IfOk result
-        (λ order. order.items ≡ placed_blocks 0 (blocks_view blocks.now.entries)) }
+fn order_of(alloc: Global, blocks: &Blocks<'_>, count: usize) -> Result<Vec<Placed>, AllocError>
+    requires { IsPaired blocks.now }
+    ensures { IfOk result (λ order. order.items ≡ placed_blocks 0 (blocks_view blocks.now)) }
 {
+    let keys = blocks.keys.as_slice();
     let mut order = Vec::with_capacity(alloc, count)?;
     let mut next = 0;
-    for b in 0..blocks.len() {
-        let (key, places) = blocks.get_index(b).unwrap();
-        next = push_named(&mut order, key, places, next)?;
+    for b in 0..keys.len() {
+        next = push_named(&mut order, &keys[b], &blocks.places[b], next)?;
     }
     Ok(order)
 }

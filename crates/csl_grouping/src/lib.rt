@@ -5,3 +5,4 @@ mod blocks;
 pub mod grouping;
 pub mod laws;
 mod moving;
+mod tokens;

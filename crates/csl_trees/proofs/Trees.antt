@@ -10,7 +10,6 @@ use Rattle.csl_trees.specs.ChildView.{child_view}
 use Rattle.std.specs.Option.{option_or}
 use Rattle.csl_trees.specs.declared.elem.Elem.{Elem}
 use Rattle.csl_trees.specs.Tree.{has_content, child_has_content, find_elem, child_find, elem_of, plain, child_plain, last_text, child_last_text}
-use Rattle.csl_trees.specs.TreeHash.{tree_fed, child_fed}
 use Rattle.csl_trees.specs.declared.elem.ElemChild.{ElemChild}
 use Rattle.csl_trees.specs.declared.elem.ElemChild.TheVariants as v
 
@@ -85,11 +84,3 @@ view-set (x ∷ xs) (suc i) w = ap (λ cs. child_view x ∷ cs) (view-set xs i w
 
 pub find_skip : (p : Elem → Bool) (e : Elem) → p e ≡ false → child_find p (child_view (v.Elem e)) ≡ find_elem p e.children
 find_skip p e t = rw (elem_back e, t)
-
-fed-append : (xs ys : List Child) → tree_fed (xs ++ ys) ≡ tree_fed xs ++ tree_fed ys
-fed-append [] ys = refl
-fed-append (x ∷ xs) ys = ap (λ t. child_fed x ++ t) (fed-append xs ys) ∙ sym (append_assoc (child_fed x) (tree_fed xs) (tree_fed ys))
-
--- what the children feed, up to the next one
-pub fed-next : (xs : List ElemChild) (i : ℕ) (x : ElemChild) → i < length xs → x ≡ get_or xs i x → tree_fed (map child_view (take (i + 1) xs)) ≡ tree_fed (map child_view (take i xs)) ++ child_fed (child_view x)
-fed-next xs i x h e = ap tree_fed (view-next xs i x h e) ∙ fed-append (map child_view (take i xs)) (child_view x ∷ []) ∙ ap (λ t. tree_fed (map child_view (take i xs)) ++ t) (append-nil (child_fed (child_view x)))

@@ -4,7 +4,6 @@ pub mod Falls
 pub mod Tree
 pub mod Simplify
 pub mod SameTree
-pub mod TreeHash
 pub mod SameElem
 pub mod Elements
 pub mod Nested

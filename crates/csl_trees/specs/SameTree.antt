@@ -1,4 +1,4 @@
--- Equality of trees as a test, and what a hash feeds.
+-- Equality of trees as a test.
 use Rattle.std.specs.Prelude.{◌≡◌, Bool, true, false, ◌&&◌, ◌==◌, List, refl}
 use Rattle.std.specs.Bool.{Decides, one_answer}
 use Rattle.std.specs.Cmp.{IsEquivalence, unsigned_Decides}

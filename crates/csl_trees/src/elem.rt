@@ -22,7 +22,6 @@ use csl_values::formatting::{Display, Formatted, Formatting};
 use csl_values::taxonomy::NameVariable;
 use std::alloc::{AllocError, Global};
 use std::fmt;
-use std::hash::{Hash, Hasher};
 use std::marker::Model;
 
 /// How a tree is written.
@@ -33,7 +32,7 @@ pub enum BufWriteFormat {
 }
 
 /// What an element was rendered for.
-#[derive(Clone, PartialEq, Eq, Hash, Drop)]
+#[derive(Clone, PartialEq, Eq, PartialOrd, Ord, Hash, Drop)]
 pub enum ElemMeta {
     /// Names: the persons of each name variable that was rendered.
     Names(Seq<(Seq<Person>, NameVariable)>),
@@ -52,7 +51,7 @@ pub enum ElemMeta {
 pub struct ElemChildren(pub Vec<ElemChild>);
 
 /// A child of an element.
-#[derive(PartialEq, Eq, Hash, Drop)]
+#[derive(PartialEq, Eq, Drop)]
 #[cycle(tree)]
 pub enum ElemChild {
     /// A text in its formatting.
@@ -68,7 +67,7 @@ pub enum ElemChild {
 }
 
 /// An element: children, and how they are set off and what they stand for.
-#[derive(PartialEq, Eq, Hash, Drop)]
+#[derive(PartialEq, Eq, Drop)]
 #[cycle(tree)]
 pub struct Elem {
     pub children: ElemChildren,
@@ -346,40 +345,6 @@ impl Eq for ElemChildren {
     ghost use Rattle.csl_trees.specs.SameTree.{same_trees-laws};
 
     ghost laws = { same_trees-laws };
-}
-
-/// Feeds the texts in preorder: equal trees have equal texts.
-impl Hash for ElemChildren {
-    ghost use Rattle.csl_trees.specs.TreeHash.{tree_fed, tree_fed-alike};
-
-    ghost hash_input = { tree_fed };
-
-    ghost respects_eq = { tree_fed-alike };
-
-    #[cycle(hash)]
-    fn hash<H: Hasher>(&self, state: &mut H) {
-        for child in &self.0 {
-            child.feed(state);
-        }
-    }
-}
-
-impl ElemChild {
-    ghost use Rattle.std.specs.Prelude.{fold};
-    ghost use Rattle.csl_trees.specs.TreeHash.{child_fed};
-
-    #[cycle(hash)]
-    fn feed<H: Hasher>(&self, state: &mut H)
-        ensures { state.new ≡ fold H.write state.old (child_fed (child_view self.now)) }
-    {
-        match self {
-            ElemChild::Text(f) => f.text.hash(state),
-            ElemChild::Elem(e) => e.children.hash(state),
-            ElemChild::Markup(s) => s.hash(state),
-            ElemChild::Link { text, .. } => text.text.hash(state),
-            ElemChild::Transparent { .. } => {}
-        }
-    }
 }
 
 impl From<Formatted> for ElemChild {

@@ -5,35 +5,35 @@ ghost use Rattle.csl_values.specs.Formatting.{applied};
 use csl_lists::text::Text;
 
 /// How letters slant.
-#[derive(Clone, Copy, PartialEq, Eq, Hash)]
+#[derive(Clone, Copy, PartialEq, Eq, PartialOrd, Ord, Hash)]
 pub enum FontStyle {
     Normal,
     Italic,
 }
 
 /// How heavy letters are.
-#[derive(Clone, Copy, PartialEq, Eq, Hash)]
+#[derive(Clone, Copy, PartialEq, Eq, PartialOrd, Ord, Hash)]
 pub enum FontWeight {
     Normal,
     Bold,
 }
 
 /// Whether small letters are written as small capitals.
-#[derive(Clone, Copy, PartialEq, Eq, Hash)]
+#[derive(Clone, Copy, PartialEq, Eq, PartialOrd, Ord, Hash)]
 pub enum FontVariant {
     Normal,
     SmallCaps,
 }
 
 /// Whether a line stands under the letters.
-#[derive(Clone, Copy, PartialEq, Eq, Hash)]
+#[derive(Clone, Copy, PartialEq, Eq, PartialOrd, Ord, Hash)]
 pub enum TextDecoration {
     None,
     Underline,
 }
 
 /// Where letters stand on their line: nothing is said, on it, above it, below it.
-#[derive(Clone, Copy, PartialEq, Eq, Hash)]
+#[derive(Clone, Copy, PartialEq, Eq, PartialOrd, Ord, Hash)]
 pub enum VerticalAlign {
     None,
     Baseline,
@@ -42,7 +42,7 @@ pub enum VerticalAlign {
 }
 
 /// How an element is set off from its neighbours (CSL 1.0.2, display).
-#[derive(Clone, Copy, PartialEq, Eq, Hash)]
+#[derive(Clone, Copy, PartialEq, Eq, PartialOrd, Ord, Hash)]
 pub enum Display {
     Block,
     LeftMargin,
@@ -62,7 +62,7 @@ pub struct StyleFormatting {
 }
 
 /// The formatting of a text.
-#[derive(Clone, Copy, PartialEq, Eq, Hash)]
+#[derive(Clone, Copy, PartialEq, Eq, PartialOrd, Ord, Hash)]
 pub struct Formatting {
     pub font_style: FontStyle,
     pub font_variant: FontVariant,
@@ -133,7 +133,7 @@ impl Formatting {
 }
 
 /// A text and its formatting.
-#[derive(Clone, PartialEq, Eq, Hash, Drop)]
+#[derive(Clone, PartialEq, Eq, PartialOrd, Ord, Hash, Drop)]
 pub struct Formatted {
     pub text: Text,
     pub formatting: Formatting,

@@ -8,6 +8,9 @@ pub loop-k-preserved : goal.loop-k-preserved
 loop-k-preserved g c =
     let items = c.args.items.now in
     let k = c.loop-k.k in
-    c.in_ok-add_place.ensures
-    ∙ cites-more item_view items k c.index-items-k.result c.index-items-k.result (blocks_view c.loop-k.blocks.entries) (key_view c.key_of.result)
-    c.loop-k-test.true c.index-items-k.is c.loop-k.invariant c.key_of.ensures
+    record {
+      paired = c.in_ok-add_place.ensures.paired;
+      blocks = c.in_ok-add_place.ensures.added
+          ∙ cites-more item_view items k c.index-items-k.result c.index-items-k.result (blocks_view c.loop-k.blocks) (key_view c.in_ok-key.key)
+          c.loop-k-test.true c.index-items-k.is c.loop-k.invariant.blocks c.in_ok-key.ensures;
+    }

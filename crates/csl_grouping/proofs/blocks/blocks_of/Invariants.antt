@@ -1,7 +1,10 @@
 use Rattle.std.proofs.Common.{◌≡◌, take}
 use Rattle.csl_passes.specs.RendersView.{items_view}
-use Rattle.csl_grouping.specs.Steps.{blocks_of, blocks_view}
+use Rattle.csl_grouping.specs.Steps.{IsPaired, blocks_of, blocks_view}
 use Rattle.csl_grouping.proofs.blocks.blocks_of.Given as goal
 
 abbrev pub invariant-loop-k : goal.invariant-loop-k
-invariant-loop-k g l = blocks_view l.blocks.entries ≡ blocks_of (items_view (take l.k l.items))
+invariant-loop-k g l = record {
+  paired : IsPaired l.blocks;
+  blocks : blocks_view l.blocks ≡ blocks_of (items_view (take l.k l.items));
+}

@@ -1,11 +1,11 @@
--- For the code: equality and hash of the keys of blocks are lawful.
+-- Equality of the keys of blocks decides equality, and the code tests it.
 use Rattle.std.proofs.Common.{◌≡◌, Bool, true, false, refl, ap, sym, subst, true≢false}
 use Rattle.std.specs.Cmp.{IsEquivalence, unsigned_Decides}
 use Rattle.csl_trees.proofs.EqualTrees.{elem_Decides}
-use Rattle.std.specs.Hash as fed
-use Rattle.csl_trees.specs.contracts.elem.ElemHash.TheImpl as elem_hash
 use Rattle.csl_grouping.specs.Steps.{key_view}
+use Rattle.csl_grouping.specs.contracts.blocks.KeyPartialEq.TheImpl as key_eq
 use Rattle.csl_grouping.specs.declared.blocks.Key.{Key}
+use Rattle.csl_grouping.specs.declared.blocks.Key.TheVariants as key
 use Rattle.csl_grouping.specs.BlockKeys.{BlockKey, named, alone, same_key}
 
 pub equal : (a b : BlockKey) → same_key a b ≡ true → a ≡ b
@@ -36,17 +36,12 @@ key_laws = record {
 abbrev pub same : Key → Key → Bool
 same a b = same_key (key_view a) (key_view b)
 
-pub same_laws : IsEquivalence same
-same_laws = record {
-  refl = λ a. key_laws.refl (key_view a);
-  symm = λ a b. key_laws.symm (key_view a) (key_view b);
-  congr = λ a b c. key_laws.congr (key_view a) (key_view b) (key_view c);
-}
+same_is : (a b : Key) → (key_eq.ghosts).eq a b ≡ same a b
+same_is (key.Named a) (key.Named b) = refl
+same_is (key.Named a) (key.Alone k) = refl
+same_is (key.Alone j) (key.Named b) = refl
+same_is (key.Alone j) (key.Alone k) = refl
 
--- what the hash of a key feeds
-abbrev pub key_fed : BlockKey → fed.HashWrites
-key_fed (named names) = (elem_hash.ghosts).hash_input names
-key_fed (alone k) = fed.usize k
-
-pub fed_alike : (a b : Key) → same a b ≡ true → key_fed (key_view a) ≡ key_fed (key_view b)
-fed_alike a b e = ap key_fed (equal (key_view a) (key_view b) e)
+-- as one test of the keys
+pub test_is : (a : Key) → (key_eq.ghosts).eq a ≡ same a
+test_is a = λ i b. same_is a b i
