@@ -32,11 +32,12 @@ use std::alloc::{AllocError, Global};
 /// items of that request, both from 0.
 #[derive(PartialEq, Eq, PartialOrd, Ord, Drop)]
 pub struct TaskKey {
-    pub style: Text,
-    pub locale: Text,
     pub entry: Text,
     pub place: Option<(usize, usize)>,
     pub part: TaskPart,
+    // Last: most keys of a document agree in these, and are compared field by field.
+    pub style: Text,
+    pub locale: Text,
 }
 
 /// What of the entry is asked for.
