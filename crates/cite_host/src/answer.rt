@@ -4,6 +4,7 @@ use crate::driven::driven_style;
 use crate::entries::{Items, cited_references};
 use crate::error::AnswerError;
 use crate::joining::joined;
+use crate::kept::KeptTexts;
 use crate::limits::{budget_of, programs_within, spend_around};
 use crate::requests::{Driver, bibliography_request, filled_driver, locators_of};
 use crate::setting::Setting;
@@ -74,6 +75,18 @@ impl<'d> Document<'d> {
     /// the style make a layout too long; `LimitExceeded` where the style takes more than its budget
     /// has; `TooManyItems`; `OutOfMemory`.
     pub fn answer(&self, alloc: Global) -> Result<Answer, AnswerError> {
+        self.answer_with(alloc, &mut KeptTexts::of_one_answer(alloc))
+    }
+
+    /// What `answer` gives; what was written for answers before isn't written again. These were in
+    /// the same style, language, locale files and short forms, with the same `lists_items` and
+    /// `part`, and each item that has changed since was forgotten.
+    ///
+    /// # Errors
+    ///
+    /// Those of `answer`; then `kept` is as good as before.
+    pub fn answer_with(&self, alloc: Global, kept: &mut KeptTexts) -> Result<Answer, AnswerError> {
+        kept.begin_answer();
         let cited = cited_references(alloc, self.references, self.citations)?;
         let budget = self.budget(&cited);
         let programs = programs_within(alloc, self.style, &budget)?;
@@ -85,7 +98,7 @@ impl<'d> Document<'d> {
             abbreviations: self.abbreviations,
             budget: &budget,
         };
-        self.answer_in(alloc, setting, cited)
+        self.answer_in(alloc, setting, cited, kept)
     }
 
     /// What the document may take, which cites these items.
@@ -105,11 +118,12 @@ impl<'d> Document<'d> {
         alloc: Global,
         setting: Setting<'_>,
         cited: Vec<&'d Reference>,
+        kept: &mut KeptTexts,
     ) -> Result<Answer, AnswerError> {
         spend_around(self.style, setting.budget, self.citations, &cited)?;
-        let items = Items::in_order(alloc, setting, cited)?;
+        let items = Items::in_order(alloc, setting, cited, kept)?;
         let citations = sorted_citations(alloc, setting, &items, self.citations)?;
-        let rendered = self.rendered(alloc, setting, &items, &citations)?;
+        let rendered = self.rendered(alloc, setting, &items, &citations, kept)?;
         self.finished(alloc, &rendered, &items, &citations)
     }
 
@@ -120,9 +134,10 @@ impl<'d> Document<'d> {
         setting: Setting<'_>,
         items: &Items<'d>,
         citations: &[SortedCitation<'d>],
+        kept: &mut KeptTexts,
     ) -> Result<Rendered, AnswerError> {
         let style = driven_style(alloc, self.style, self.has_notes(setting))?;
-        let writer = TaskWriter::new(alloc, setting, items, citations, self.lists_items);
+        let writer = TaskWriter::new(alloc, setting, items, citations, self.lists_items, kept);
         rendered_in(alloc, &style, items, writer)
     }
 
@@ -259,7 +274,7 @@ fn rendered_in<'e>(
     alloc: Global,
     style: &'e IndependentStyle,
     items: &'e Items<'_>,
-    writer: TaskWriter<'_, '_, '_>,
+    writer: TaskWriter<'_, '_, '_, '_>,
 ) -> Result<Rendered, AnswerError> {
     let locators = locators_of(alloc, writer.citations)?;
     let driver = filled_driver(alloc, &*style, &*items, writer.citations, &locators)?;
@@ -275,7 +290,7 @@ fn rendered_by<'e>(
     driver: &Driver<'e>,
     style: &IndependentStyle,
     order: &[&'e PlainEntry],
-    memo: &mut Memo<TaskWriter<'_, '_, '_>>,
+    memo: &mut Memo<TaskWriter<'_, '_, '_, '_>>,
 ) -> Result<Rendered, AnswerError> {
     let request = bibliography_request(style, order);
     match driver.answer_csl_with(&request, memo) {

@@ -2,6 +2,7 @@
 use crate::cites::Citation;
 use crate::error::AnswerError;
 use crate::facts::first_cite;
+use crate::kept::KeptTexts;
 use crate::programs::BibliographyProgram;
 use crate::setting::Setting;
 use cite_limits::error::LimitError;
@@ -19,12 +20,14 @@ pub(crate) struct Items<'d> {
     pub references: Vec<&'d Reference>,
     /// At the same places, what the driver knows of them.
     pub entries: Vec<PlainEntry>,
+    /// At the same places, their versions (`KeptTexts`).
+    versions: Vec<usize>,
     /// The places, by the ids.
     places: BTreeMap<String, usize>,
 }
 
 impl<'d> Items<'d> {
-    /// These items in the order of the bibliography.
+    /// These items in the order of the bibliography, in the versions of the texts that are kept.
     ///
     /// # Errors
     ///
@@ -33,27 +36,32 @@ impl<'d> Items<'d> {
         alloc: Global,
         setting: Setting<'_>,
         cited: Vec<&'d Reference>,
+        kept: &mut KeptTexts,
     ) -> Result<Items<'d>, LimitError> {
         let ordered = match setting.bibliography() {
             Some(bibliography) => in_order(alloc, setting, bibliography, cited)?,
             None => cited,
         };
-        Ok(Items::of_references(alloc, ordered)?)
+        Ok(Items::of_references(alloc, ordered, kept)?)
     }
 
     fn of_references(
         alloc: Global,
         references: Vec<&'d Reference>,
+        kept: &mut KeptTexts,
     ) -> Result<Items<'d>, AllocError> {
         let mut entries = Vec::new(alloc);
+        let mut versions = Vec::new(alloc);
         let mut places = BTreeMap::new(alloc);
         for (place, reference) in references.iter().enumerate() {
             entries.push(entry_of(alloc, place)?)?;
+            versions.push(kept.version(&reference.id)?)?;
             places.insert(reference.id.clone()?, place)?;
         }
         Ok(Items {
             references,
             entries,
+            versions,
             places,
         })
     }
@@ -72,6 +80,11 @@ impl<'d> Items<'d> {
     pub fn keyed_id(&self, key: &str) -> Option<&'d str> {
         let reference = self.reference(self.keyed_place(key)?)?;
         Some(reference.id.as_str())
+    }
+
+    /// The version of the item at this place.
+    pub fn version(&self, place: usize) -> Option<usize> {
+        self.versions.get(place).copied()
     }
 
     /// The item at this place.

@@ -10,6 +10,7 @@ mod entries;
 pub mod error;
 mod facts;
 mod joining;
+pub mod kept;
 pub mod limits;
 mod plain_cites;
 mod programs;

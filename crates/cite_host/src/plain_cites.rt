@@ -1,21 +1,15 @@
 //! Cites that are written alike: that is done once.
 use crate::writer::{Asked, TaskWriter};
-use cite_limits::budget::Budget;
-use cite_limits::cost::Cost;
-use cite_limits::error::{LimitError, StylePlace};
-use cite_trees::trees::shown_of;
 use cite_walk::cite::Repetition;
 use csl_lookup::means::Means;
 use csl_lookup::state::CollapseVerdict;
-use csl_writers::cite::Cite;
-use host_memo::table::copied;
-use std::alloc::{AllocError, Global};
+use std::alloc::AllocError;
 use style_file::style::StyleClass;
 
 /// All that the text of a cite depends on that has no locator, and stands apart from none.
 #[derive(PartialEq, Eq, PartialOrd, Ord, Drop)]
 pub(crate) struct PlainCite {
-    /// The place of its item.
+    /// The version of its item.
     item: usize,
     /// The number of its item, as it is printed.
     number: usize,
@@ -36,7 +30,7 @@ struct CiteStanding {
     first_note_number: Option<usize>,
 }
 
-impl<'s, 'i, 'd> TaskWriter<'s, 'i, 'd> {
+impl<'s, 'i, 'd, 'w> TaskWriter<'s, 'i, 'd, 'w> {
     /// All that the text of a cite depends on; none where it has a locator, or stands apart.
     pub(crate) fn plain_cite(&self, asked: Asked<'_>) -> Result<Option<PlainCite>, AllocError> {
         if let Some(cite) = self.shown_cite(asked) {
@@ -44,11 +38,12 @@ impl<'s, 'i, 'd> TaskWriter<'s, 'i, 'd> {
                 return Ok(None);
             }
         }
-        let Some(facts) = self.cite_facts(asked) else {
+        let (Some(facts), Some(item)) = (self.cite_facts(asked), self.items.version(asked.item))
+        else {
             return Ok(None);
         };
         Ok(Some(PlainCite {
-            item: asked.item,
+            item,
             number: facts.number,
             standing: self.asked_standing(asked),
             repetition: facts.repetition,
@@ -76,42 +71,5 @@ impl<'s, 'i, 'd> TaskWriter<'s, 'i, 'd> {
             Some((_, own)) => own == 0 && self.setting.style.class == StyleClass::Note,
             None => false,
         }
-    }
-}
-
-/// A cite that was written, and what it took. A copy of it takes as much.
-#[derive(Drop)]
-pub(crate) struct KnownCite {
-    pub cite: Cite,
-    pub cost: Cost,
-}
-
-impl KnownCite {
-    /// The same cite once more.
-    ///
-    /// # Errors
-    ///
-    /// `Exceeded` where the budget has less left than it takes; `OutOfMemory`.
-    pub fn copied(&self, budget: &Budget) -> Result<Cite, LimitError> {
-        budget.spend(self.cost, StylePlace::Citation)?;
-        Ok(copied(&self.cite)?)
-    }
-
-    /// What of it is shown.
-    ///
-    /// # Errors
-    ///
-    /// Those of `copied`.
-    pub fn shown(&self, alloc: Global, budget: &Budget) -> Result<KnownCite, LimitError> {
-        budget.spend(self.cost, StylePlace::Citation)?;
-        Ok(KnownCite {
-            cite: Cite {
-                children: shown_of(alloc, &self.cite.children)?,
-                checked_disambiguate: self.cite.checked_disambiguate,
-                first_name: None,
-                identifier_usage: self.cite.identifier_usage,
-            },
-            cost: self.cost,
-        })
     }
 }

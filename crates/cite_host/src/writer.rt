@@ -1,12 +1,13 @@
 //! What the driver asks for is written.
 use crate::entries::Items;
-use crate::plain_cites::{KnownCite, PlainCite};
+use crate::kept::{KeptTexts, KnownCite, ListedState};
+use crate::plain_cites::PlainCite;
 use crate::programs::BibliographyProgram;
 use crate::setting::Setting;
 use crate::sorting::SortedCitation;
 use crate::wording::{author_alone, begins_sentence, with_affixes, with_capital_term};
 use cite_limits::cost::Cost;
-use cite_limits::error::LimitError;
+use cite_limits::error::{LimitError, StylePlace};
 use cite_pieces::formatting::TextFormatting;
 use cite_pieces::marked::with_field_marks;
 use cite_pieces::output::{AffixPlace, Element, written};
@@ -14,7 +15,7 @@ use cite_pieces::piece::Mark;
 use cite_pieces::pieces::Pieces;
 use cite_pieces::punctuation::{punctuated, punctuated_but_names};
 use cite_trees::trees::tree_of;
-use cite_walk::cite::WrittenCite;
+use cite_walk::cite::{CiteFacts, WrittenCite};
 use cite_walk::walk::write_cite;
 use csl_base::elem::ElemChildren;
 use csl_base::names::NameDisambiguationProperties;
@@ -24,26 +25,22 @@ use csl_lookup::state::{CollapseVerdict, IdentifierUsage};
 use csl_writers::cite as driver;
 use host_memo::key::{Standing, TaskKey, TaskPart};
 use host_memo::source::Source;
-use host_memo::table::copied;
 use std::alloc::{AllocError, Global};
-use std::collections::BTreeMap;
 use std::mem::replace;
 use style_file::sections::Layout;
 use style_file::style::StyleClass;
 
 /// Writes the tasks of a document.
 #[derive(Drop)]
-pub(crate) struct TaskWriter<'s, 'i, 'd> {
+pub(crate) struct TaskWriter<'s, 'i, 'd, 'w> {
     pub alloc: Global,
     pub setting: Setting<'s>,
     pub items: &'i Items<'d>,
     pub citations: &'i [SortedCitation<'d>],
     /// Whether the items of the bibliography are wanted.
     lists_items: bool,
-    /// What was written of plain cites that are compared.
-    compared_cites: BTreeMap<PlainCite, KnownCite>,
-    /// What was written of plain cites that are shown.
-    shown_cites: BTreeMap<PlainCite, KnownCite>,
+    /// What was written, by this answer and others.
+    kept: &'w mut KeptTexts,
 }
 
 /// What marks the first field of an item as a whole: the driver sets apart what is marked first.
@@ -61,7 +58,7 @@ pub(crate) struct Asked<'k> {
     pub verdict: Option<CollapseVerdict>,
 }
 
-impl<'s, 'i, 'd> Source for TaskWriter<'s, 'i, 'd> {
+impl<'s, 'i, 'd, 'w> Source for TaskWriter<'s, 'i, 'd, 'w> {
     type Error = LimitError;
 
     fn write(&mut self, alloc: Global, key: &TaskKey) -> Result<driver::Cite, LimitError> {
@@ -82,23 +79,23 @@ impl<'s, 'i, 'd> Source for TaskWriter<'s, 'i, 'd> {
     }
 }
 
-impl<'s, 'i, 'd> TaskWriter<'s, 'i, 'd> {
-    /// A writer that hasn't written anything yet.
+impl<'s, 'i, 'd, 'w> TaskWriter<'s, 'i, 'd, 'w> {
+    /// A writer that has written what is kept.
     pub fn new(
         alloc: Global,
         setting: Setting<'s>,
         items: &'i Items<'d>,
         citations: &'i [SortedCitation<'d>],
         lists_items: bool,
-    ) -> TaskWriter<'s, 'i, 'd> {
+        kept: &'w mut KeptTexts,
+    ) -> TaskWriter<'s, 'i, 'd, 'w> {
         TaskWriter {
             alloc,
             setting,
             items,
             citations,
             lists_items,
-            compared_cites: BTreeMap::new(alloc),
-            shown_cites: BTreeMap::new(alloc),
+            kept,
         }
     }
 
@@ -120,14 +117,11 @@ impl<'s, 'i, 'd> TaskWriter<'s, 'i, 'd> {
         asked: Asked<'_>,
         plain: PlainCite,
     ) -> Result<driver::Cite, LimitError> {
-        let budget = self.setting.budget;
-        if let Some(known) = self.compared_cites.get(&plain) {
-            return known.copied(budget);
+        if let Some(known) = self.kept.compared_cites.get(&plain) {
+            return known.copied(self.setting.budget, StylePlace::Citation);
         }
         let known = self.write_anew(asked)?;
-        let cite = copied(&known.cite)?;
-        self.compared_cites.insert(plain, known)?;
-        Ok(cite)
+        Ok(self.kept.compared_cites.keep(plain, known)?)
     }
 
     /// Writes a plain cite that is shown, by what was compared of it, if that was written.
@@ -137,32 +131,24 @@ impl<'s, 'i, 'd> TaskWriter<'s, 'i, 'd> {
         plain: PlainCite,
     ) -> Result<driver::Cite, LimitError> {
         let budget = self.setting.budget;
-        if let Some(known) = self.shown_cites.get(&plain) {
-            return known.copied(budget);
+        if let Some(known) = self.kept.shown_cites.get(&plain) {
+            return known.copied(budget, StylePlace::Citation);
         }
-        let known = match self.compared_cites.get(&plain) {
+        let known = match self.kept.compared_cites.get(&plain) {
             Some(known) => known.shown(self.alloc, budget)?,
             None => self.write_anew(asked)?,
         };
-        let cite = copied(&known.cite)?;
-        self.shown_cites.insert(plain, known)?;
-        Ok(cite)
+        Ok(self.kept.shown_cites.keep(plain, known)?)
     }
 
     /// Writes a cite by the layout, with the words that stand around it.
     fn write_anew(&self, asked: Asked<'_>) -> Result<KnownCite, LimitError> {
         let Some(facts) = self.cite_facts(asked) else {
-            return Ok(KnownCite {
-                cite: nothing(self.alloc),
-                cost: Cost::NOTHING,
-            });
+            return Ok(KnownCite::new(nothing(self.alloc), Cost::NOTHING));
         };
         let cite = write_cite(self.alloc, self.setting.cite_scene(), facts)?;
         let cost = cite.cost;
-        Ok(KnownCite {
-            cite: self.finished(asked, cite)?,
-            cost,
-        })
+        Ok(KnownCite::new(self.finished(asked, cite)?, cost))
     }
 
     /// A cite that was written, as it is shown or compared.
@@ -210,16 +196,43 @@ impl<'s, 'i, 'd> TaskWriter<'s, 'i, 'd> {
         }
     }
 
-    /// Writes an item of the bibliography, with the affixes of its layout.
-    fn write_item(&self, item: usize, standing: &Standing) -> Result<driver::Cite, LimitError> {
+    /// Writes an item of the bibliography; one that was written alike isn't written again, where
+    /// items are kept.
+    fn write_item(&mut self, item: usize, standing: &Standing) -> Result<driver::Cite, LimitError> {
         let Some(facts) = self.item_facts(item, standing) else {
             return Ok(nothing(self.alloc));
         };
+        let Some(state) = self.listed_state(item, &facts) else {
+            return Ok(self.write_item_anew(facts)?.cite);
+        };
+        if let Some(known) = self.kept.items.get(&state) {
+            return known.copied(self.setting.budget, StylePlace::Bibliography);
+        }
+        let known = self.write_item_anew(facts)?;
+        Ok(self.kept.items.keep(state, known)?)
+    }
+
+    /// All that the text of an item depends on, where items are kept.
+    fn listed_state(&self, item: usize, facts: &CiteFacts<'_>) -> Option<ListedState> {
+        if !self.kept.keeps_items() {
+            return None;
+        }
+        Some(ListedState {
+            item: self.items.version(item)?,
+            number: facts.number,
+            disambiguates: facts.disambiguates,
+            year_suffix: facts.year_suffix,
+        })
+    }
+
+    /// Writes an item of the bibliography, with the affixes of its layout.
+    fn write_item_anew(&self, facts: CiteFacts<'_>) -> Result<KnownCite, LimitError> {
         let Some(bibliography) = self.setting.bibliography() else {
-            return Ok(nothing(self.alloc));
+            return Ok(KnownCite::new(nothing(self.alloc), Cost::NOTHING));
         };
         let listed = write_cite(self.alloc, self.setting.item_scene(bibliography), facts)?;
-        Ok(self.listed(bibliography, listed)?)
+        let cost = listed.cost;
+        Ok(KnownCite::new(self.listed(bibliography, listed)?, cost))
     }
 
     /// An item that was written, as it is listed.
