@@ -84,8 +84,8 @@ impl fmt::Display for Warning {
                 write!(f, "unknown {} `{found}`", kind.name())?;
                 write_nearest(f, nearest)
             }
-            Oddity::Element => write!(f, "element `{found}` is read over"),
-            Oddity::Text => write!(f, "text `{found}` is read over"),
+            Oddity::Element => write!(f, "element `{found}` is ignored"),
+            Oddity::Text => write!(f, "text `{found}` is ignored"),
             Oddity::Version => write!(f, "version `{found}` is read as 1.0"),
             Oddity::NoVersion => write!(f, "`{found}` without a version is read as 1.0"),
             Oddity::NoNamespace => write!(f, "`{found}` without a namespace is read as CSL's"),
