@@ -15,6 +15,8 @@ use std::alloc::{AllocError, Global};
 #[derive(Drop)]
 pub struct ReadCitations {
     pub citations: Vec<Citation>,
+    /// The `citationID` of each citation, at its place, where it has one.
+    pub ids: Vec<Option<String>>,
     /// What is otherwise than it stands in the JSON, in the order of the cites.
     pub warnings: Vec<CiteWarning>,
 }
@@ -38,12 +40,15 @@ pub fn read_citations(alloc: Global, bytes: &[u8]) -> Result<ReadCitations, Cita
     };
     let mut reader = Reader::new(alloc, unkept)?;
     let mut citations = Vec::new(alloc);
+    let mut ids = Vec::new(alloc);
     for (index, item) in items.iter().enumerate() {
         let citation = reader.citation(index, item)?;
         citations.push(citation)?;
+        ids.push(reader.id_of(index, item)?)?;
     }
     Ok(ReadCitations {
         citations,
+        ids,
         warnings: reader.warnings,
     })
 }
@@ -94,6 +99,8 @@ enum CitationForm {
 }
 
 const CITES: &str = "citationItems";
+
+const CITATION_ID: &str = "citationID";
 
 const PROPERTIES: &str = "properties";
 
@@ -205,6 +212,14 @@ impl Reader {
                 let pointer = Place::Citation(citation).pointer(self.alloc)?;
                 Err(refusal(pointer, Wanted::Citation))
             }
+        }
+    }
+
+    /// The id that a citation has in the document.
+    fn id_of(&self, citation: usize, item: &Value) -> Result<Option<String>, AllocError> {
+        match item.as_object() {
+            Some(object) => self.text_at(Place::Citation(citation), object, CITATION_ID),
+            None => Ok(None),
         }
     }
 
