@@ -2,15 +2,15 @@
 ghost use Rattle.std.specs.Prelude.{◌≡◌, IfErr};
 
 use crate::document::CallDocument;
-use crate::error::{CallError, answer_refusal};
+use crate::error::CallError;
 use crate::findings::print_findings;
 use crate::lines::print_lines;
+use crate::options::AnswerForm;
 use crate::reader::TextReader;
 use crate::remark::{Fault, Remark, TextPlace};
 use crate::style::style_faults;
 use crate::texts::{CallTexts, TextName};
 use cite_answer::printing::print_answer;
-use cite_host::limits::check_style;
 use std::alloc::{AllocError, Global};
 
 /// The citations and the bibliography of these texts, which is there where the style has one: as
@@ -42,9 +42,9 @@ fn print_document(
     let mut answer = styling.answer(alloc, text, &locale, references, citations)?;
     answer.citations.truncate(*shown);
     let marks = locale.quote_marks();
-    Ok(match styling.options.lines {
-        Some(form) => print_lines(alloc, form, &answer, marks)?,
-        None => print_answer(alloc, &styling.style, citations, &answer, marks)?,
+    Ok(match styling.options.form {
+        Some(AnswerForm::Lines(form)) => print_lines(alloc, form, &answer, marks)?,
+        _ => print_answer(alloc, &styling.style, citations, &answer, marks)?,
     })
 }
 
@@ -115,9 +115,5 @@ fn all_faults(
 /// Reads these texts, and keeps nothing but warnings.
 fn checked(alloc: Global, reader: &mut TextReader, texts: CallTexts<'_>) -> Result<(), CallError> {
     let document = reader.document(texts)?;
-    let styling = &document.styling;
-    match check_style(alloc, &styling.style, styling.options.part) {
-        Ok(()) => Ok(()),
-        Err(error) => Err(answer_refusal(alloc, texts.style, &styling.style, error)),
-    }
+    document.styling.check(alloc, texts.style)
 }

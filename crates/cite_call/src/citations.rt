@@ -6,7 +6,7 @@ use crate::texts::TextName;
 use cite_host::cites::Citation;
 use cite_json::fault::CitationsError;
 use cite_json::notes::number_notes;
-use cite_json::reading::read_citations;
+use cite_json::reading::{ReadCitations, read_citations};
 use csl_references::reference::References;
 use std::alloc::Global;
 
@@ -22,15 +22,26 @@ impl TextReader {
         bytes: &[u8],
         references: &References,
     ) -> Result<Vec<Citation>, CallError> {
+        let read = self.citations_of_any(bytes)?;
+        check_ids(self.alloc, &read.citations, references)?;
+        Ok(read.citations)
+    }
+
+    /// The citations of JSON, with their ids, whatever items they cite. Where some have the number
+    /// of a note, each has one. The warnings are those of the reader.
+    ///
+    /// # Errors
+    ///
+    /// `Fault` where the text is none; `OutOfMemory`.
+    pub fn citations_of_any(&mut self, bytes: &[u8]) -> Result<ReadCitations, CallError> {
         match read_citations(self.alloc, bytes) {
             Ok(read) => {
                 for warning in &read.warnings {
                     self.warn_of_part(TextName::Citations, &warning.pointer, &warning.kind)?;
                 }
-                let mut citations = read.citations;
-                check_ids(self.alloc, &citations, references)?;
-                number_notes(self.alloc, &mut citations)?;
-                Ok(citations)
+                let mut read = read;
+                number_notes(self.alloc, &mut read.citations)?;
+                Ok(read)
             }
             Err(error) => Err(citations_refusal(self.alloc, &error)),
         }
@@ -68,7 +79,9 @@ fn check_ids(
     Ok(())
 }
 
-fn no_item(alloc: Global, number: usize, place: usize, id: &str) -> CallError {
+/// The error of a cite of an item that isn't there; `number` is the place of its citation, and
+/// `place` its own there, both from 0.
+pub fn no_item(alloc: Global, number: usize, place: usize, id: &str) -> CallError {
     let Ok(pointer) = format!(in alloc; "/{number}/{place}/id") else {
         return CallError::OutOfMemory;
     };

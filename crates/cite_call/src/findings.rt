@@ -21,28 +21,52 @@ pub(crate) fn print_findings(
         put(&mut members, alloc, "fault", value)?;
     }
     if !faults.is_empty() {
-        put(&mut members, alloc, "faults", remark_list(alloc, faults)?)?;
+        put(&mut members, alloc, "faults", remark_list(alloc, &faults)?)?;
     }
     put(
         &mut members,
         alloc,
         "warnings",
-        remark_list(alloc, warnings)?,
+        remark_list(alloc, &warnings)?,
     )?;
     Value::Object(members).to_string(alloc)
 }
 
-fn remark_list(alloc: Global, remarks: Vec<Remark>) -> Result<Value, AllocError> {
+/// A JSON object with the warnings of some texts, in the order of these, as `find_fault` has them.
+///
+/// # Errors
+///
+/// Where memory is refused.
+pub fn print_warnings(alloc: Global, texts: &[&[Remark]]) -> Result<String, AllocError> {
     let mut values = Vec::new(alloc);
+    for remarks in texts {
+        push_remarks(alloc, &mut values, *remarks)?;
+    }
+    let mut members = Map::new(alloc);
+    put(&mut members, alloc, "warnings", Value::Array(values))?;
+    Value::Object(members).to_string(alloc)
+}
+
+fn remark_list(alloc: Global, remarks: &[Remark]) -> Result<Value, AllocError> {
+    let mut values = Vec::new(alloc);
+    push_remarks(alloc, &mut values, remarks)?;
+    Ok(Value::Array(values))
+}
+
+fn push_remarks(
+    alloc: Global,
+    values: &mut Vec<Value>,
+    remarks: &[Remark],
+) -> Result<(), AllocError> {
     for remark in remarks {
         values.push(Value::Object(remark_members(alloc, remark)?))?;
     }
-    Ok(Value::Array(values))
+    Ok(())
 }
 
 fn fault_members(alloc: Global, fault: Fault) -> Result<Map<String, Value>, AllocError> {
     let Fault { remark, parent } = fault;
-    let mut members = remark_members(alloc, remark)?;
+    let mut members = remark_members(alloc, &remark)?;
     if let Some(parent) = parent {
         let ParentStyle { link, language } = parent;
         put(&mut members, alloc, "parent", Value::String(link))?;
@@ -58,24 +82,26 @@ fn fault_members(alloc: Global, fault: Fault) -> Result<Map<String, Value>, Allo
     Ok(members)
 }
 
-fn remark_members(alloc: Global, remark: Remark) -> Result<Map<String, Value>, AllocError> {
-    let Remark {
-        text,
-        place,
-        message,
-    } = remark;
+fn remark_members(alloc: Global, remark: &Remark) -> Result<Map<String, Value>, AllocError> {
     let mut members = Map::new(alloc);
+    let text = &remark.text;
     let name = format!(in alloc; "{text}")?;
+    let message = remark.message.clone()?;
     put(&mut members, alloc, "file", Value::String(name))?;
     put(&mut members, alloc, "message", Value::String(message))?;
-    match place {
+    match &remark.place {
         TextPlace::Whole => {}
         TextPlace::Line { line, column } => {
-            put(&mut members, alloc, "line", Value::from(line))?;
-            put(&mut members, alloc, "column", Value::from(column))?;
+            put(&mut members, alloc, "line", Value::from(*line))?;
+            put(&mut members, alloc, "column", Value::from(*column))?;
         }
         TextPlace::Pointer(pointer) => {
-            put(&mut members, alloc, "pointer", Value::String(pointer))?;
+            put(
+                &mut members,
+                alloc,
+                "pointer",
+                Value::String(pointer.clone()?),
+            )?;
         }
     }
     Ok(members)

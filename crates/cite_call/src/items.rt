@@ -14,7 +14,7 @@ impl TextReader {
     /// # Errors
     ///
     /// `Fault` where the text is none; `OutOfMemory`.
-    pub(crate) fn items(&mut self, bytes: &[u8]) -> Result<References, CallError> {
+    pub fn items(&mut self, bytes: &[u8]) -> Result<References, CallError> {
         match read_references(self.alloc, bytes) {
             Ok(read) => {
                 for warning in &read.warnings {

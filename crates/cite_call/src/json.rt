@@ -11,7 +11,7 @@ use std::fmt;
 /// # Errors
 ///
 /// `Fault` where it is none; `OutOfMemory`.
-pub(crate) fn json_value(alloc: Global, name: TextName, bytes: &[u8]) -> Result<Value, CallError> {
+pub fn json_value(alloc: Global, name: TextName, bytes: &[u8]) -> Result<Value, CallError> {
     let text = match str::from_utf8(bytes) {
         Ok(text) => text,
         Err(error) => return Err(no_utf8(alloc, name, error.valid_up_to())),
@@ -37,7 +37,7 @@ pub(crate) fn no_json(alloc: Global, name: TextName, line: usize, column: usize)
 }
 
 /// The error of a part of JSON that isn't what is wanted there.
-pub(crate) fn wrong_part<P: fmt::Display, W: fmt::Display>(
+pub fn wrong_part<P: fmt::Display, W: fmt::Display>(
     alloc: Global,
     name: TextName,
     pointer: &P,

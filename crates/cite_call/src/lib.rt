@@ -3,17 +3,17 @@
 #![tactic(auto)]
 
 pub mod calling;
-mod citations;
+pub mod citations;
 mod document;
 pub mod error;
-mod findings;
+pub mod findings;
 mod items;
-mod json;
+pub mod json;
 mod lines;
 mod locales;
-mod options;
-mod reader;
+pub mod options;
+pub mod reader;
 pub mod remark;
 mod style;
-mod styling;
+pub mod styling;
 pub mod texts;

@@ -14,7 +14,7 @@ use write_forms::forms::Form;
 
 /// The options of a call.
 #[derive(Drop)]
-pub(crate) struct CallOptions {
+pub struct CallOptions {
     /// The language, in place of the style's.
     pub language: Option<String>,
     /// Whether items are listed that no cite is of.
@@ -23,8 +23,17 @@ pub(crate) struct CallOptions {
     pub abbreviations: Option<Abbreviations>,
     /// What the style may take for each cite and each item.
     pub part: Cost,
-    /// The form of the lines that are wanted in place of JSON.
-    pub lines: Option<Form>,
+    /// The form of the answer, where one is named.
+    pub form: Option<AnswerForm>,
+}
+
+/// The form of an answer.
+#[derive(Clone, Copy, PartialEq, Eq)]
+pub enum AnswerForm {
+    /// JSON with trees.
+    Json,
+    /// Texts, each on a line of its own.
+    Lines(Form),
 }
 
 /// The options that a text has. An empty text has none.
@@ -38,7 +47,7 @@ pub(crate) fn options_of(alloc: Global, bytes: &[u8]) -> Result<CallOptions, Cal
         lists_all: false,
         abbreviations: None,
         part: USUAL_PART,
-        lines: None,
+        form: None,
     };
     if bytes.is_empty() {
         return Ok(options);
@@ -78,7 +87,7 @@ fn set_option(
         },
         "abbreviations" => options.abbreviations = Some(abbreviations_in(alloc, value)?),
         "limits" => options.part = part_in(alloc, value)?,
-        "form" => options.lines = form_in(alloc, value)?,
+        "form" => options.form = Some(form_in(alloc, value)?),
         _ => {
             let why = "unknown key; the options are `locale`, `nocite`, `abbreviations`, `limits` \
                        and `form`";
@@ -88,18 +97,18 @@ fn set_option(
     Ok(())
 }
 
-/// The form that the value names, if that is no JSON.
-fn form_in(alloc: Global, value: &Value) -> Result<Option<Form>, CallError> {
+/// The form that the value names.
+fn form_in(alloc: Global, value: &Value) -> Result<AnswerForm, CallError> {
     let name = match value {
         Value::String(name) => name.as_str(),
         _ => "",
     };
     match name {
-        "json" => Ok(None),
-        "text" => Ok(Some(Form::Text)),
-        "html" => Ok(Some(Form::Html)),
-        "markdown" => Ok(Some(Form::Markdown)),
-        "latex" => Ok(Some(Form::Latex)),
+        "json" => Ok(AnswerForm::Json),
+        "text" => Ok(AnswerForm::Lines(Form::Text)),
+        "html" => Ok(AnswerForm::Lines(Form::Html)),
+        "markdown" => Ok(AnswerForm::Lines(Form::Markdown)),
+        "latex" => Ok(AnswerForm::Lines(Form::Latex)),
         _ => {
             let why = "wanted `text`, `html`, `markdown`, `latex` or `json`";
             Err(wrong_option(alloc, "form", why))
@@ -149,7 +158,8 @@ fn abbreviations_in(alloc: Global, value: &Value) -> Result<Abbreviations, CallE
     }
 }
 
-fn wrong_option(alloc: Global, key: &str, why: &'static str) -> CallError {
+/// The error of an option that isn't what is wanted.
+pub fn wrong_option(alloc: Global, key: &str, why: &'static str) -> CallError {
     match pointer_to(alloc, key) {
         Ok(pointer) => wrong_part(alloc, TextName::Options, &pointer, &why),
         Err(_) => CallError::OutOfMemory,

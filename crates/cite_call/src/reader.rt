@@ -6,7 +6,7 @@ use std::fmt;
 
 /// Reads texts, and keeps what is odd in them.
 #[derive(Drop)]
-pub(crate) struct TextReader {
+pub struct TextReader {
     pub alloc: Global,
     /// What is odd in the texts that were read, in their order.
     pub warnings: Vec<Remark>,
@@ -14,7 +14,7 @@ pub(crate) struct TextReader {
 
 impl TextReader {
     /// A reader that has read nothing.
-    pub(crate) fn new(alloc: Global) -> TextReader {
+    pub fn new(alloc: Global) -> TextReader {
         TextReader {
             alloc,
             warnings: Vec::new(alloc),
@@ -22,7 +22,11 @@ impl TextReader {
     }
 
     /// Warns of a place of a text.
-    pub(crate) fn warn<W: fmt::Display>(
+    ///
+    /// # Errors
+    ///
+    /// Where memory is refused.
+    pub fn warn<W: fmt::Display>(
         &mut self,
         text: TextName,
         place: TextPlace,

@@ -4,6 +4,8 @@ use crate::options::{CallOptions, options_of};
 use crate::reader::TextReader;
 use cite_host::answer::{Answer, Document};
 use cite_host::cites::Citation;
+use cite_host::kept::KeptTexts;
+use cite_host::limits::check_style;
 use cite_locale::chain::LocaleChain;
 use cite_locale::tags::usual_tag;
 use csl_references::reference::References;
@@ -16,13 +18,20 @@ const LANGUAGE: &str = "en-US";
 
 /// What the texts of a call say beside the items and the citations.
 #[derive(Drop)]
-pub(crate) struct Styling {
+pub struct Styling {
     pub style: CslStyle,
     /// The tag of the language: that of the options, or else of the style.
     pub language: String,
     /// The locale files in which words are looked for, American English among them.
     pub locales: Vec<LocaleFile>,
     pub options: CallOptions,
+}
+
+/// Citations, and the items that they may cite.
+#[derive(Clone, Copy)]
+pub struct CitedItems<'d> {
+    pub references: &'d References,
+    pub citations: &'d [Citation],
 }
 
 impl TextReader {
@@ -32,7 +41,7 @@ impl TextReader {
     ///
     /// `Fault` with the first thing that is wrong: in the options, the style or the locale files;
     /// `OutOfMemory`.
-    pub(crate) fn styling(
+    pub fn styling(
         &mut self,
         style: &[u8],
         locales: &[u8],
@@ -57,7 +66,7 @@ impl Styling {
     /// # Errors
     ///
     /// Where memory is refused.
-    pub(crate) fn locale(&self, alloc: Global) -> Result<LocaleChain<'_>, AllocError> {
+    pub fn locale(&self, alloc: Global) -> Result<LocaleChain<'_>, AllocError> {
         let language = self.language.as_str();
         LocaleChain::new(alloc, language, &self.style.locales, &self.locales)
     }
@@ -77,7 +86,41 @@ impl Styling {
         references: &References,
         citations: &[Citation],
     ) -> Result<Answer, CallError> {
-        let asked = Document {
+        match self.asked(locale, references, citations).answer(alloc) {
+            Ok(answer) => Ok(answer),
+            Err(error) => Err(answer_refusal(alloc, text, &self.style, error)),
+        }
+    }
+
+    /// What `answer` gives; what was written for answers before isn't written again. These were of
+    /// this very styling, and each item that has changed since was forgotten.
+    ///
+    /// # Errors
+    ///
+    /// Those of `answer`.
+    pub fn answer_with(
+        &self,
+        alloc: Global,
+        text: &[u8],
+        locale: &LocaleChain<'_>,
+        document: CitedItems<'_>,
+        kept: &mut KeptTexts,
+    ) -> Result<Answer, CallError> {
+        let asked = self.asked(locale, document.references, document.citations);
+        match asked.answer_with(alloc, kept) {
+            Ok(answer) => Ok(answer),
+            Err(error) => Err(answer_refusal(alloc, text, &self.style, error)),
+        }
+    }
+
+    /// Citations of items, to be written in this style.
+    fn asked<'d>(
+        &'d self,
+        locale: &'d LocaleChain<'d>,
+        references: &'d References,
+        citations: &'d [Citation],
+    ) -> Document<'d> {
+        Document {
             style: &self.style,
             locale,
             language: self.language.as_str(),
@@ -86,9 +129,18 @@ impl Styling {
             abbreviations: self.options.abbreviations.as_ref(),
             lists_items: true,
             part: self.options.part,
-        };
-        match asked.answer(alloc) {
-            Ok(answer) => Ok(answer),
+        }
+    }
+
+    /// Refuses a style that takes more than its limits, whatever is cited; `text` is that of the
+    /// style.
+    ///
+    /// # Errors
+    ///
+    /// `Fault` where the macros of the style are too long; `LimitExceeded`; `OutOfMemory`.
+    pub fn check(&self, alloc: Global, text: &[u8]) -> Result<(), CallError> {
+        match check_style(alloc, &self.style, self.options.part) {
+            Ok(()) => Ok(()),
             Err(error) => Err(answer_refusal(alloc, text, &self.style, error)),
         }
     }
