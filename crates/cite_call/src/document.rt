@@ -1,5 +1,6 @@
 //! The document that the texts of a call are.
 use crate::error::CallError;
+use crate::options::OptionsOf;
 use crate::reader::TextReader;
 use crate::styling::Styling;
 use crate::texts::CallTexts;
@@ -25,7 +26,7 @@ impl TextReader {
     /// `Fault` with the first thing that is wrong: in the options, the style, the locale files, the
     /// items, or the citations; `OutOfMemory`.
     pub(crate) fn document(&mut self, texts: CallTexts<'_>) -> Result<CallDocument, CallError> {
-        let styling = self.styling(texts.style, texts.locales, texts.options)?;
+        let styling = self.styling(texts.style, texts.locales, texts.options, OptionsOf::Call)?;
         let references = self.items(texts.items)?;
         let mut citations = self.citations(texts.citations, &references)?;
         let shown = citations.len();

@@ -25,6 +25,16 @@ pub struct CallOptions {
     pub part: Cost,
     /// The form of the answer, where one is named.
     pub form: Option<AnswerForm>,
+    /// Whether the document is a draft, in which cites of items that aren't there are no fault.
+    pub is_draft: bool,
+}
+
+/// Whose options are read.
+#[derive(Clone, Copy, PartialEq, Eq)]
+pub enum OptionsOf {
+    Call,
+    /// Those of a session, which may have `draft` too.
+    Session,
 }
 
 /// The form of an answer.
@@ -41,13 +51,18 @@ pub enum AnswerForm {
 /// # Errors
 ///
 /// `Fault` where it is no object of options; `OutOfMemory`.
-pub(crate) fn options_of(alloc: Global, bytes: &[u8]) -> Result<CallOptions, CallError> {
+pub(crate) fn options_of(
+    alloc: Global,
+    bytes: &[u8],
+    owner: OptionsOf,
+) -> Result<CallOptions, CallError> {
     let mut options = CallOptions {
         language: None,
         lists_all: false,
         abbreviations: None,
         part: USUAL_PART,
         form: None,
+        is_draft: false,
     };
     if bytes.is_empty() {
         return Ok(options);
@@ -64,7 +79,7 @@ pub(crate) fn options_of(alloc: Global, bytes: &[u8]) -> Result<CallOptions, Cal
     };
     for key in object.keys() {
         if let Some(value) = object.get(key.as_str()) {
-            set_option(alloc, &mut options, key.as_str(), value)?;
+            set_option(alloc, &mut options, owner, key.as_str(), value)?;
         }
     }
     Ok(options)
@@ -73,6 +88,7 @@ pub(crate) fn options_of(alloc: Global, bytes: &[u8]) -> Result<CallOptions, Cal
 fn set_option(
     alloc: Global,
     options: &mut CallOptions,
+    owner: OptionsOf,
     key: &str,
     value: &Value,
 ) -> Result<(), CallError> {
@@ -88,13 +104,26 @@ fn set_option(
         "abbreviations" => options.abbreviations = Some(abbreviations_in(alloc, value)?),
         "limits" => options.part = part_in(alloc, value)?,
         "form" => options.form = Some(form_in(alloc, value)?),
-        _ => {
-            let why = "unknown key; the options are `locale`, `nocite`, `abbreviations`, `limits` \
-                       and `form`";
-            return Err(wrong_option(alloc, key, why));
-        }
+        "draft" if owner == OptionsOf::Session => match value {
+            Value::Bool(is_draft) => options.is_draft = *is_draft,
+            _ => return Err(wrong_option(alloc, key, "wanted true or false")),
+        },
+        _ => return Err(wrong_option(alloc, key, unknown_key(owner))),
     }
     Ok(())
+}
+
+/// What is wrong with an unknown key.
+fn unknown_key(owner: OptionsOf) -> &'static str {
+    match owner {
+        OptionsOf::Call => {
+            "unknown key; the options are `locale`, `nocite`, `abbreviations`, `limits` and `form`"
+        }
+        OptionsOf::Session => {
+            "unknown key; the options are `locale`, `nocite`, `abbreviations`, `limits`, `form` \
+             and `draft`"
+        }
+    }
 }
 
 /// The form that the value names.

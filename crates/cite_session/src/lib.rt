@@ -3,10 +3,12 @@
 
 pub mod changes;
 mod citations;
+mod draft;
 mod ids;
 mod library;
 mod printing;
 pub mod session;
 mod style;
 pub mod texts;
+mod writing;
 mod written;

@@ -1,19 +1,18 @@
 //! A document that is edited.
 use crate::citations::KeyedCitations;
+use crate::draft::Draft;
 use crate::ids::read_ids;
 use crate::library::{Library, ids_of};
 use crate::printing::print_changes;
 use crate::style::SessionStyle;
 use crate::texts::SessionTexts;
+use crate::writing::Materials;
 use crate::written::WrittenTexts;
 use cite_call::error::CallError;
 use cite_call::findings::print_warnings;
 use cite_call::reader::TextReader;
 use cite_call::remark::Remark;
-use cite_call::styling::CitedItems;
-use cite_host::answer::Answer;
 use cite_host::kept::KeptTexts;
-use cite_locale::chain::LocaleChain;
 use std::alloc::Global;
 
 /// A document that is edited: a style, items and citations. Each answer has what changed since the
@@ -33,6 +32,8 @@ pub struct Session {
     item_warnings: Vec<Remark>,
     /// What is odd in the citations.
     citation_warnings: Vec<Remark>,
+    /// Cites of items that weren't there when the document was written last, where it is a draft.
+    draft_warnings: Vec<Remark>,
 }
 
 impl Session {
@@ -51,6 +52,7 @@ impl Session {
             last: None,
             item_warnings: Vec::new(alloc),
             citation_warnings: Vec::new(alloc),
+            draft_warnings: Vec::new(alloc),
         })
     }
 
@@ -114,10 +116,14 @@ impl Session {
     /// the keys that are gone; and a list `keys` of all keys, in their order, where that is another
     /// than last time. `bibliography` has the same, with `id` and `ids`, where the style has one.
     ///
+    /// In a draft, a cite of an item that isn't there is its id in bold letters, with a question
+    /// mark; it has no number, and is in no list.
+    ///
     /// # Errors
     ///
-    /// `Fault` where an item is cited that isn't there, or the macros of the style are too long;
-    /// `LimitExceeded` where the style takes more than its limits; `TooManyItems`; `OutOfMemory`.
+    /// `Fault` where an item is cited that isn't there, except in a draft, or the macros of the
+    /// style are too long; `LimitExceeded` where the style takes more than its limits;
+    /// `TooManyItems`; `OutOfMemory`.
     pub fn answer(&mut self, alloc: Global) -> Result<String, CallError> {
         let texts = self.written(alloc)?;
         let printed = print_changes(alloc, self.last.as_ref(), &texts)?;
@@ -138,8 +144,9 @@ impl Session {
     }
 
     /// What was read otherwise than it stands in the texts: of the style, of the items that were
-    /// put last, and of the citations. It is a JSON object with a list `warnings`, as
-    /// `cite_call::calling::find_fault` has it.
+    /// put last, and of the citations; and where the document is a draft, the cites of items that
+    /// weren't there at the last answer, each with the id that is nearest. It is a JSON object with
+    /// a list `warnings`, as `cite_call::calling::find_fault` has it.
     ///
     /// # Errors
     ///
@@ -149,6 +156,7 @@ impl Session {
             self.style.warnings.as_slice(),
             self.item_warnings.as_slice(),
             self.citation_warnings.as_slice(),
+            self.draft_warnings.as_slice(),
         ];
         Ok(print_warnings(alloc, &lists)?)
     }
@@ -162,37 +170,28 @@ impl Session {
 
     /// The texts of the document.
     fn written(&mut self, alloc: Global) -> Result<WrittenTexts, CallError> {
-        self.citations.check_ids(alloc, &self.library)?;
-        if self.style.styling.options.lists_all {
-            self.citations.push_uncited(alloc, &self.library)?;
+        if self.style.styling.options.is_draft {
+            return self.written_draft(alloc);
         }
-        let texts = self.written_all(alloc);
-        self.citations.leave_out_uncited();
-        texts
-    }
-
-    /// The texts of the document, whose last citation has no key where all items are listed.
-    fn written_all(&mut self, alloc: Global) -> Result<WrittenTexts, CallError> {
-        let styling = &self.style.styling;
-        let locale = styling.locale(alloc)?;
-        let document = CitedItems {
-            references: self.library.references(),
-            citations: &self.citations.citations,
+        self.citations.check_ids(alloc, &self.library)?;
+        self.draft_warnings = Vec::new(alloc);
+        let materials = Materials {
+            style: &self.style,
+            library: &self.library,
         };
-        let text = self.style.text.as_slice();
-        let answer = styling.answer_with(alloc, text, &locale, document, &mut self.kept)?;
-        self.in_form(alloc, &answer, &locale)
+        materials.written(alloc, &mut self.citations, &[], &mut self.kept)
     }
 
-    fn in_form(
-        &self,
-        alloc: Global,
-        answer: &Answer,
-        locale: &LocaleChain<'_>,
-    ) -> Result<WrittenTexts, CallError> {
-        let marks = locale.quote_marks();
-        let keys = self.citations.keys.as_slice();
-        let texts = WrittenTexts::of_answer(alloc, self.style.form, keys, answer, marks)?;
+    /// The texts of a document that is a draft.
+    fn written_draft(&mut self, alloc: Global) -> Result<WrittenTexts, CallError> {
+        let mut draft = Draft::of(alloc, &self.citations, &self.library)?;
+        let materials = Materials {
+            style: &self.style,
+            library: &self.library,
+        };
+        let missing = draft.missing.as_slice();
+        let texts = materials.written(alloc, &mut draft.citations, missing, &mut self.kept)?;
+        self.draft_warnings = draft.warnings;
         Ok(texts)
     }
 }

@@ -9,6 +9,7 @@ pub struct SessionTexts<'t> {
     pub locales: &'t [u8],
     /// A JSON object of options; an empty text stands for an empty object. They are those of
     /// `cite_call::texts::CallTexts`, but that `form` names the form of texts: `text`, which is the
-    /// usual one, `html`, `markdown` or `latex`.
+    /// usual one, `html`, `markdown` or `latex`; and
+    /// where `draft` is true, cites of items that aren't there are no fault.
     pub options: &'t [u8],
 }
