@@ -74,16 +74,16 @@ returns-clause-key c a b =
     let told : TellsEqual (part_eq.ghosts).eq = returns-clause-part c in (
       λ e. let p = both _ _ e in let q = both _ _ p.1 in let r = both _ _ q.1 in let s = both _ _ r.1 in
           λ i. record {
-            style = (texts a.style b.style).0 p.0 i;
-            locale = (texts a.locale b.locale).0 q.0 i;
-            entry = (texts a.entry b.entry).0 r.0 i;
-            place = (places a.place b.place).0 s.0 i;
-            part = (told a.part b.part).0 s.1 i;
+            style = (texts a.style b.style).0 s.0 i;
+            locale = (texts a.locale b.locale).0 s.1 i;
+            entry = (texts a.entry b.entry).0 p.0 i;
+            place = (places a.place b.place).0 q.0 i;
+            part = (told a.part b.part).0 r.0 i;
           },
       λ e.
-          and-true _ _ ((texts a.style b.style).1 (ap (λ k. k.style) e))
-          (and-true _ _ ((texts a.locale b.locale).1 (ap (λ k. k.locale) e))
-          (and-true _ _ ((texts a.entry b.entry).1 (ap (λ k. k.entry) e))
+          and-true _ _ ((texts a.entry b.entry).1 (ap (λ k. k.entry) e))
           (and-true _ _ ((places a.place b.place).1 (ap (λ k. k.place) e))
-          ((told a.part b.part).1 (ap (λ k. k.part) e))))),
+          (and-true _ _ ((told a.part b.part).1 (ap (λ k. k.part) e))
+          (and-true _ _ ((texts a.style b.style).1 (ap (λ k. k.style) e))
+          ((texts a.locale b.locale).1 (ap (λ k. k.locale) e))))),
     )
