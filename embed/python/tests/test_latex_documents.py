@@ -349,6 +349,18 @@ def test_notes_stand_behind_the_punctuation(paper):
 
 
 @tex
+def test_spaces_behind_abbreviations_are_those_of_words(paper):
+    """As in biblatex, which sets \\frenchspacing. Of sentences they are wider."""
+    paper.write(r'\sbox0{\cite[cf.][p.~4]{doe99}}\sbox2{\frenchspacing cf. Doe, On Order, 4}'
+                r'\sbox4{cf. Doe, On Order, 4}\typeout{WIDTHS \the\wd0 \the\wd2 \the\wd4}')
+    paper.latex()
+    paper.cited()
+    paper.latex()
+    shown, of_words, of_sentences = re.findall(r'[\d.]+(?=pt)', paper.log.split('WIDTHS')[1])[:3]
+    assert shown == of_words != of_sentences
+
+
+@tex
 def test_headings_of_lists(paper):
     for options, wanted in (('[title=Works]', '1 Works doe99'), ('[heading=none]', '1 doe99'),
                             ('[heading=bibnumbered]', '1 1 References doe99')):
