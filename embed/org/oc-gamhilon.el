@@ -20,8 +20,9 @@
 ;; of a file (docs/STYLES.md); files of references are those that the Python
 ;; package reads.  It writes HTML, LaTeX or text, as the back-end wants it.
 ;;
-;; Styles of citations: none, `text' (t), `author' (a), `noauthor' (na) and
-;; `nocite' (n).
+;; Styles of citations are those of oc-csl: none, `text' (t), `author' (a),
+;; `noauthor' (na) and `year' (y), with the variants `bare' (b), `caps' (c) and
+;; `bare-caps' (bc); and `nocite' (n).
 
 ;;; Code:
 
@@ -48,7 +49,7 @@ Paths are whole: Emacs expands no ~ in them."
   :type '(repeat string))
 
 (defconst org-cite-gamhilon--labels
-  '(("page" "p." "pp." "page" "pages")
+  '(("page" "p." "pp." "p" "page" "pages")
     ("chapter" "chap." "chaps." "ch." "chapter" "chapters")
     ("section" "sec." "secs." "§" "§§" "section" "sections")
     ("volume" "vol." "vols." "volume" "volumes")
@@ -58,7 +59,8 @@ Paths are whole: Emacs expands no ~ in them."
     ("note" "n." "nn." "note" "notes") ("issue" "no." "nos." "number" "numbers")
     ("part" "pt." "pts." "part" "parts") ("book" "bk." "bks." "book" "books")
     ("column" "col." "cols." "column" "columns")
-    ("folio" "fol." "fols." "folio" "folios"))
+    ("folio" "fol." "fols." "folio" "folios")
+    ("opus" "op." "opp." "opus") ("sub-verbo" "s.v." "s.vv." "sub verbo"))
   "The kinds of locators, and how documents name them.")
 
 (defconst org-cite-gamhilon--locator
@@ -79,7 +81,9 @@ Paths are whole: Emacs expands no ~ in them."
 (defun org-cite-gamhilon--locator-and-rest (suffix)
   "The locator in SUFFIX as members of a cite, and the rest of it."
   (let ((case-fold-search nil))
-    (if (not (string-match org-cite-gamhilon--locator suffix))
+    (if (not (and (string-match org-cite-gamhilon--locator suffix)
+                  (or (match-string 1 suffix)
+                      (string-match-p "[0-9]" (match-string 2 suffix)))))
         (cons nil suffix)
       (let* ((told (match-string 1 suffix))
              (locator (match-string 2 suffix))
@@ -118,8 +122,36 @@ Paths are whole: Emacs expands no ~ in them."
     ((or "text" "t") 'text)
     ((or "author" "a") 'author)
     ((or "noauthor" "na") 'noauthor)
+    ((or "year" "y") 'year)
     ((or "nocite" "n") 'nocite)
     (_ 'whole)))
+
+(defun org-cite-gamhilon--varied (text citation info)
+  "TEXT of CITATION in the variant that it has in the export of INFO."
+  (let* ((variant (cdr (org-cite-citation-style citation info)))
+         (text (if (member variant '("bare" "b" "bare-caps" "bc"))
+                   (org-cite-gamhilon--bare text)
+                 text)))
+    (if (member variant '("caps" "c" "bare-caps" "bc"))
+        (org-cite-gamhilon--with-capital text)
+      text)))
+
+(defun org-cite-gamhilon--bare (text)
+  "TEXT without the brackets around it."
+  (seq-some (lambda (pair)
+              (and (string-prefix-p (car pair) text)
+                   (string-suffix-p (cdr pair) text)
+                   (substring text (length (car pair)) (- (length text) (length (cdr pair))))))
+            '(("(" . ")") ("[" . "]") ("{[}" . "{]}") ("" . ""))))
+
+(defun org-cite-gamhilon--with-capital (text)
+  "TEXT, whose first word begins with a capital: behind brackets, tags and links."
+  (let ((case-fold-search nil))
+    (if (string-match "\\`\\(?:<[^>]*>\\|\\\\hyperlink{[^}]*}{\\|[[({]\\)*[[:lower:]]" text)
+        (let ((place (1- (match-end 0))))
+          (concat (substring text 0 place) (upcase (substring text place (1+ place)))
+                  (substring text (1+ place))))
+      text)))
 
 (defun org-cite-gamhilon--capital (cite)
   "CITE, whose prefix begins with a capital."
@@ -140,6 +172,11 @@ NOTE is the number of the note that it begins, or in which it stands, or nil."
     (pcase kind
       ('author (funcall all 'author-only))
       ('noauthor (funcall all 'suppress-author))
+      ('year (list (mapcar (lambda (cite)
+                             `((suppress-author . t)
+                               ,@(seq-remove (lambda (part) (memq (car part) '(locator label)))
+                                             cite)))
+                           cites)))
       ('nocite (funcall all 'hidden))
       ('text (mapcan (lambda (cite)
                        (list (list `((id . ,(cdr (assq 'id cite))) (author-only . t)))
@@ -216,7 +253,7 @@ It is put into one unless it stands in one, whose number is negative."
   (let ((note (org-cite-inside-footnote-p citation)))
     (cond (note
            (- (org-export-get-footnote-number note info)))
-          ((memq kind '(whole text noauthor))
+          ((memq kind '(whole text noauthor year))
            (org-cite-adjust-note citation info)
            (org-export-get-footnote-number (org-cite-wrap-citation citation info) info)))))
 
@@ -289,7 +326,7 @@ In styles of numbers and labels a cite has no author, and stands alone."
 (defun org-cite-gamhilon-export-citation (citation _style _backend info)
   "Export CITATION in the export of INFO."
   (let* ((parts (cdr (assq citation (car (org-cite-gamhilon--answer info)))))
-         (text (org-cite-gamhilon--joined parts)))
+         (text (org-cite-gamhilon--varied (org-cite-gamhilon--joined parts) citation info)))
     (org-cite-gamhilon--exported
      (if (org-cite-gamhilon--goes-on-p citation info) (org-cite-gamhilon--without-stop text) text)
      info)))
@@ -308,7 +345,12 @@ In styles of numbers and labels a cite has no author, and stands alone."
   :export-citation #'org-cite-gamhilon-export-citation
   :export-bibliography #'org-cite-gamhilon-export-bibliography
   :cite-styles
-  '((("text" "t")) (("author" "a")) (("noauthor" "na")) (("nocite" "n")) (("nil"))))
+  '((("text" "t") ("caps" "c"))
+    (("author" "a") ("caps" "c"))
+    (("noauthor" "na") ("bare" "b") ("caps" "c") ("bare-caps" "bc"))
+    (("year" "y") ("bare" "b"))
+    (("nocite" "n"))
+    (("nil") ("bare" "b") ("caps" "c") ("bare-caps" "bc"))))
 
 (provide 'oc-gamhilon)
 ;;; oc-gamhilon.el ends here

@@ -127,6 +127,10 @@ ASKED = [
                                       'suffix': ', in part'}]]),
     ('[cite:@doe99 chaps. iv-vi]', [[{'id': 'doe99', 'locator': 'iv-vi', 'label': 'chapter'}]]),
     ('[cite:@doe99 in full]', [[{'id': 'doe99', 'suffix': 'in full'}]]),
+    ('[cite:@doe99 mid 1990]', [[{'id': 'doe99', 'suffix': 'mid 1990'}]]),
+    ('[cite:@doe99 s.v. order]', [[{'id': 'doe99', 'suffix': 's.v. order'}]]),
+    ('[cite:@doe99 s.v. 7]', [[{'id': 'doe99', 'locator': '7', 'label': 'sub-verbo'}]]),
+    ('[cite/y/b:@doe99 p. 4]', [[{'id': 'doe99', 'suppress-author': True}]]),
     ('[cite:see; also @doe99;@roe;, too]', [[{'id': 'doe99', 'prefix': 'see also'},
                                              {'id': 'roe', 'suffix': ', too'}]]),
     ('[cite/na:@doe99]', [[{'id': 'doe99', 'suppress-author': True}]]),
@@ -176,3 +180,30 @@ def test_authors_and_years_of_a_style(export, cites):
                                 program=False)
     assert status == 0, error
     assert first(out) == 'As Doe (1999, p. 4) and (Roe 2000); Roe.'
+
+
+# What the commentary of oc-csl.el lists: its styles and variants, but for those that name all
+# authors, and the text that it shows of a citation with a locator.
+OF_OC_CSL = [
+    ('[cite:see @doe99 chapter 1, for an example]', '(see Doe 1999, chap. 1, for an example)'),
+    ('[cite//b:@doe99]', 'Doe 1999'), ('[cite//bare:see @doe99 p. 4]', 'see Doe 1999, p. 4'),
+    ('[cite//c:see @doe99]', '(See Doe 1999)'), ('[cite//bare-caps:see @doe99]', 'See Doe 1999'),
+    ('[cite/a:@small]', 'van Small'), ('[cite/a/c:@small]', 'Van Small'),
+    ('[cite/na:@doe99]', '(1999)'), ('[cite/na/b:@doe99 p. 4]', '1999, p. 4'),
+    ('[cite/na/bc:see @doe99]', 'See 1999'), ('[cite/y:@doe99]', '(1999)'),
+    ('[cite/year/bare:@doe99]', '1999'), ('[cite/t:@small]', 'van Small (2001)'),
+    ('[cite/text/caps:@small]', 'Van Small (2001)'),
+]
+
+
+@pytest.mark.parametrize('to', ['ascii', 'html', 'latex'])
+def test_styles_of_oc_csl(export, cites, to):
+    small = {'id': 'small', 'type': 'book', 'title': 'Less', 'issued': {'date-parts': [[2001]]},
+             'author': [{'family': 'Small', 'non-dropping-particle': 'van'}]}
+    (export.folder / 'refs.json').write_text(json.dumps([*REFERENCES, small]))
+    status, out, error = export('; '.join(citation for citation, _ in OF_OC_CSL), to,
+                                program=False)
+    assert status == 0, error
+    text = re.sub(r'<[^>]*>|\\hyperlink\{[^}]*\}', '', out)
+    text = re.sub(r'\{([^{}]*)\}', r'\1', ' '.join(text.split()))
+    assert '; '.join(shown for _, shown in OF_OC_CSL) in text.replace('\u00a0', ' ')
