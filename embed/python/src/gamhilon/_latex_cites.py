@@ -179,7 +179,7 @@ class DocumentWriter:
         names, rest = written.names, written.rest
         if asking.named:
             names = [self._names(asking.named)]
-        if part.is_author and not text_of_runs(rest).strip():
+        if part.is_author and not (self.style.is_author_date and text_of_runs(rest).strip()):
             rest = [self._names(part.keys)]
         if part.is_in_text and not part.keeps_names and not text_of_runs(names).strip():
             names = [self._names(part.keys)]
