@@ -362,6 +362,16 @@ def test_ids_header_and_tooltips_are_those_of_conf(project):
     assert 'title="doe99"' not in project.page('index', 'html')
 
 
+def test_the_header_of_footnotes(project):
+    project.write('index.rst', 'Home\n====\n\nSee :footcite:p:`doe99`.\n\n'
+                               '.. footbibliography::\n\nMore.\n\n.. footbibliography::\n')
+    told = {'bibtex_footbibliography_header': '.. rubric:: *Notes*'}
+    assert project.build('html', **told) == []
+    home = project.page('index', 'html')
+    assert home.count('<p class="rubric"><em>Notes</em></p>') == 1
+    assert home.index('rubric') < home.index('doe99</') < home.index('More.')
+
+
 def test_latex_has_each_label_to_which_it_refers(project):
     project.write('index.rst', 'Home\n====\n\nSee :cite:p:`doe99`.\n\n.. bibliography::\n')
     assert project.build('latex', project='Own') == []

@@ -39,7 +39,8 @@ def setup(app: Sphinx) -> Dict[str, Any]:
                              'take one of the two out of the extensions')
     for name, default in (('bibtex_bibfiles', []), ('bibtex_default_style', 'alpha'),
                           ('bibtex_reference_style', 'label'), ('bibtex_encoding', 'utf-8-sig'),
-                          ('bibtex_bibliography_header', ''), ('bibtex_tooltips', True),
+                          ('bibtex_bibliography_header', ''),
+                          ('bibtex_footbibliography_header', ''), ('bibtex_tooltips', True),
                           ('bibtex_cite_id', ''), ('bibtex_bibliography_id', ''),
                           ('gamhilon_style', ''), ('gamhilon_locale', ''),
                           ('gamhilon_locales', '')):

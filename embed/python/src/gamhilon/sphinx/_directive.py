@@ -15,7 +15,7 @@ from ._listed import LIST_TYPES, Listed
 from ._log import warn
 from ._nodes import reference_list
 
-__all__ = ['BibliographyDirective']
+__all__ = ['BibliographyDirective', 'header']
 
 _FLAGS = {'all': ALL, 'notcited': NOT_CITED, 'cited': CITED}
 
@@ -53,7 +53,7 @@ class BibliographyDirective(SphinxDirective):
             options.get('start', 1))
         domain.lists_of(self.env.docname).append(listed)
         if self.config.bibtex_bibliography_header:
-            node += _header(self.config.bibtex_bibliography_header, self.state.document)
+            node += header(self.config.bibtex_bibliography_header, self.state.document)
         return [node]
 
     def _warn(self, message: str, subtype: str) -> None:
@@ -111,7 +111,7 @@ class BibliographyDirective(SphinxDirective):
         return LIST_TYPES[0]
 
 
-def _header(text: str, document: nodes.document) -> List[nodes.Node]:
+def header(text: str, document: nodes.document) -> List[nodes.Node]:
     """What conf.py puts before each list, which is reStructuredText on any page."""
     made = new_document('bibtex_bibliography_header', document.settings)
     Parser().parse(text, made)

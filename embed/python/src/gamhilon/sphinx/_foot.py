@@ -8,6 +8,7 @@ from sphinx.domains import Domain
 from sphinx.util.docutils import SphinxDirective, SphinxRole
 
 from ..csl import Cite
+from ._directive import header
 from ._domain import CiteDomain
 from ._forms import AUTHORS_OF_TEXTS
 from ._log import warn
@@ -81,7 +82,9 @@ class FootBibliographyDirective(SphinxDirective):
     """Where the footnotes of works stand that the page has cited before it."""
 
     def run(self) -> List[nodes.Node]:
-        return list(take_notes(self.env))
+        notes = take_notes(self.env)
+        text = self.config.bibtex_footbibliography_header
+        return [*(header(text, self.state.document) if text and notes else []), *notes]
 
 
 def take_notes(env: Any) -> List[nodes.footnote]:
