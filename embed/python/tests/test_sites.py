@@ -8,7 +8,7 @@ import pytest
 from conftest import PROJECT, REFERENCES
 from stand_ins import MadeUpStyle
 
-from gamhilon import _library, styles
+from gamhilon import _library, markdown_pages, styles
 
 markdown = pytest.importorskip('markdown', reason='there is no Python-Markdown '
                                                   '(Debian: python3-markdown)')
@@ -60,6 +60,16 @@ def test_its_texts_are_those_of_the_references(place):
     import html as entities
     paragraph = re.search('<p>(.*?)</p>', html).group(1)
     assert entities.unescape(re.sub('</?a[^>]*>', '', paragraph)) == f'({title})'
+
+
+def test_ampersands_of_a_page_are_read_by_any_markdown(place):
+    """By Python-Markdown too, which doesn't know `\\&`."""
+    works = [{'id': 'doe99', 'title': 'A & B &amp; \\& C'}]
+    page = markdown_pages.cite_page('[@doe99]\n', 'author-date', works).text
+    assert 'A &amp; B' in page and '\\&' not in page.replace('\\\\', '')
+    import html as entities
+    shown = entities.unescape(re.sub('<[^>]*>', '', markdown.markdown(page)))
+    assert '(A & B &amp; \\& C)' in shown
 
 
 def test_its_notes_are_numbered_as_they_are_read(place):
