@@ -48,6 +48,10 @@
 Paths are whole: Emacs expands no ~ in them."
   :type '(repeat string))
 
+(defcustom org-cite-gamhilon-style-sheet t
+  "Whether a list in HTML brings the style sheet that lays it out."
+  :type 'boolean)
+
 (defconst org-cite-gamhilon--labels
   '(("page" "p." "pp." "p" "page" "pages")
     ("chapter" "chap." "chaps." "ch." "chapter" "chapters")
@@ -71,6 +75,9 @@ Paths are whole: Emacs expands no ~ in them."
                         t)
             "[  ]*\\)?\\(\\(?:" numbers "\\)\\(?:[ ]*[-–—,&]+[ ]*\\(?:" numbers "\\)\\)*\\)"))
   "A locator at the beginning of what stands behind a key.")
+
+(defconst org-cite-gamhilon--raised "\\`\\(?:<[^>]*>\\)*<sup\\|\\`\\\\textsuperscript"
+  "How a raised number begins, in HTML and in LaTeX.")
 
 ;;; What documents cite
 
@@ -193,42 +200,82 @@ NOTE is the number of the note that it begins, or in which it stands, or nil."
           ((org-export-derived-backend-p backend 'latex) "latex")
           (t "text"))))
 
-(defun org-cite-gamhilon--arguments (info form citations)
-  "The arguments of the program for INFO, FORM and the file CITATIONS."
+(defun org-cite-gamhilon--style (info)
+  "The style of the document of INFO."
+  (or (org-cite-bibliography-style info) org-cite-gamhilon-style))
+
+(defun org-cite-gamhilon--arguments (info form citations style)
+  "The arguments of the program for INFO, FORM, the file CITATIONS and STYLE."
   (let* ((files (or (plist-get info :bibliography)
                     (user-error "The document has no #+bibliography")))
          (language (or (plist-get info :language) "en"))
          (more (mapcan (lambda (file) (list "--references" file)) (copy-sequence (cdr files)))))
-    `("--style" ,(or (org-cite-bibliography-style info) org-cite-gamhilon-style)
+    `("--style" ,style
       ,@(unless (string-prefix-p "en" language) (list "--locale" language))
       ,@org-cite-gamhilon-arguments "--to" ,form ,@more ,(car files) ,citations)))
 
-(defun org-cite-gamhilon--call (command form requests info)
-  "What COMMAND writes in FORM for REQUESTS, in the export of INFO.
-What the program warns of is shown as messages."
-  (let ((citations (make-temp-file "gamhilon" nil ".json"))
-        (warnings (make-temp-file "gamhilon"))
-        (coding-system-for-read 'utf-8)
+(defun org-cite-gamhilon--with-file (ending text function)
+  "What FUNCTION gives of the path of a file with this ENDING and TEXT."
+  (let ((path (make-temp-file "gamhilon" nil ending))
         (coding-system-for-write 'utf-8))
     (unwind-protect
-        (with-temp-buffer
-          (with-temp-file citations
-            (insert (json-encode (vconcat (mapcar #'vconcat requests)))))
-          (let* ((program org-cite-gamhilon-program)
-                 (status (apply #'call-process (car program) nil (list t warnings) nil
-                                (append (cdr program) (list command)
-                                        (org-cite-gamhilon--arguments info form citations))))
-                 (document (or (plist-get info :input-file) "the document"))
-                 (said (with-temp-buffer
-                         (insert-file-contents warnings)
-                         (org-trim (string-replace citations document (buffer-string))))))
-            (unless (equal status 0)
-              (user-error "%s" said))
-            (unless (string-empty-p said)
-              (message "%s" said))
-            (buffer-string)))
-      (delete-file citations)
-      (delete-file warnings))))
+        (progn (with-temp-file path (insert text))
+               (funcall function path))
+      (delete-file path))))
+
+(defun org-cite-gamhilon--run (words document)
+  "What the program prints with the arguments WORDS.
+What it warns of is shown as messages. DOCUMENT has a path that they name,
+and what stands for it."
+  (org-cite-gamhilon--with-file
+   "" ""
+   (lambda (warnings)
+     (with-temp-buffer
+       (let* ((coding-system-for-read 'utf-8)
+              (program org-cite-gamhilon-program)
+              (status (apply #'call-process (car program) nil (list t warnings) nil
+                             (append (cdr program) words)))
+              (said (with-temp-buffer
+                      (insert-file-contents warnings)
+                      (org-trim (string-replace (car document) (cdr document)
+                                                (buffer-string))))))
+         (unless (equal status 0)
+           (user-error "%s" said))
+         (unless (string-empty-p said)
+           (message "%s" said))
+         (buffer-string))))))
+
+(defun org-cite-gamhilon--call (command form requests info &optional style)
+  "What COMMAND writes in FORM for REQUESTS, in the export of INFO.
+STYLE is another style than that of the document."
+  (org-cite-gamhilon--with-file
+   ".json" (json-encode (vconcat (mapcar #'vconcat requests)))
+   (lambda (citations)
+     (org-cite-gamhilon--run
+      (cons command (org-cite-gamhilon--arguments
+                     info form citations (or style (org-cite-gamhilon--style info))))
+      (cons citations (or (plist-get info :input-file) "the document"))))))
+
+(defun org-cite-gamhilon--with-authors (lines form requests info)
+  "LINES of REQUESTS in FORM with their authors, for the export of INFO.
+A style of numbers or labels writes none: another style writes them."
+  (let* ((is-author (lambda (request) (assq 'author-only (car request))))
+         (asked (seq-filter is-author requests))
+         (style (if asked
+                    (org-cite-gamhilon--run
+                     (list "org" "--names" (org-cite-gamhilon--style info)) '("\n" . " "))
+                  "")))
+    (if (string-empty-p style)
+        lines
+      (let ((authors (org-cite-gamhilon--with-file
+                      ".csl" style
+                      (lambda (path)
+                        (org-cite-gamhilon--lines
+                         (org-cite-gamhilon--call "cite" form asked info path)
+                         (length asked))))))
+        (seq-mapn (lambda (line request)
+                    (if (funcall is-author request) (pop authors) line))
+                  lines requests)))))
 
 (defun org-cite-gamhilon--lines (text count)
   "The lines of TEXT, which are COUNT."
@@ -286,8 +333,10 @@ INFO keeps it."
              (pairs (org-cite-gamhilon--in-order (seq-mapn #'cons citations each) notes info))
              (requests (mapcan (lambda (pair) (copy-sequence (cdr pair))) pairs))
              (form (org-cite-gamhilon--form info))
-             (lines (org-cite-gamhilon--lines
-                     (org-cite-gamhilon--call "cite" form requests info) (length requests)))
+             (lines (org-cite-gamhilon--with-authors
+                     (org-cite-gamhilon--lines
+                      (org-cite-gamhilon--call "cite" form requests info) (length requests))
+                     form requests info))
              (written (mapcar
                        (lambda (pair)
                          (let ((count (length (cdr pair))))
@@ -300,11 +349,12 @@ INFO keeps it."
         answer)))
 
 (defun org-cite-gamhilon--joined (parts)
-  "PARTS with spaces between: an author, and a cite without it.
-In styles of numbers and labels a cite has no author, and stands alone."
+  "PARTS, each an author and then the rest of its cite, with spaces between.
+Raised numbers have none before them."
   (pcase parts
     (`(,author ,rest . ,more)
-     (let ((own (if (string-match-p (regexp-quote author) rest) rest (concat author " " rest))))
+     (let* ((is-raised (string-match-p org-cite-gamhilon--raised rest))
+            (own (concat author (if is-raised "" " ") rest)))
        (if more (concat own ", " (org-cite-gamhilon--joined more)) own)))
     (_ (or (car parts) ""))))
 
@@ -336,10 +386,13 @@ In styles of numbers and labels a cite has no author, and stands alone."
   (let* ((form (org-cite-gamhilon--form info))
          (requests (alist-get 'requests (cdr (org-cite-gamhilon--answer info))))
          (text (org-cite-gamhilon--call "bibliography" form requests info)))
-    (if (equal form "text")
-        (mapconcat (lambda (line) (org-cite-gamhilon--exported line info))
-                   (split-string text "\n" t) "\n\n")
-      text)))
+    (cond ((equal form "text")
+           (mapconcat (lambda (line) (org-cite-gamhilon--exported line info))
+                      (split-string text "\n" t) "\n\n"))
+          ((and (equal form "html") org-cite-gamhilon-style-sheet)
+           (concat "<style>\n" (org-cite-gamhilon--run '("css") '("\n" . " ")) "</style>\n"
+                   text))
+          (t text))))
 
 (org-cite-register-processor 'gamhilon
   :export-citation #'org-cite-gamhilon-export-citation

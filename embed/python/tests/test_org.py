@@ -34,8 +34,9 @@ class Style(MadeUpStyle):
                 citation['note_number'] = number
         return super()._put(json.dumps(said).encode(), status, *given)
 
-with open({asked!r}, 'w') as file:
-    file.write(open(sys.argv[-1]).read())
+if sys.argv[1] in ('cite', 'bibliography'):
+    with open({asked!r}, 'w') as file:
+        file.write(open(sys.argv[-1]).read())
 _library._library = _library.Library(Style())
 sys.exit(__main__.main())
 '''
@@ -155,6 +156,7 @@ def test_html_and_latex_are_those_of_the_program(export):
                        ('latex', r'\hypertarget{ref-doe99}{}doe99')):
         status, out, _ = export('See [cite:@doe99].', to)
         assert status == 0 and 'See (Doe, On Order).' in out and wanted in out
+        assert ('.csl-entry' in out.split('</style>')[0]) == (to == 'html')
 
 
 def test_in_a_style_of_notes_citations_are_footnotes(export):
@@ -207,3 +209,13 @@ def test_styles_of_oc_csl(export, cites, to):
     text = re.sub(r'<[^>]*>|\\hyperlink\{[^}]*\}', '', out)
     text = re.sub(r'\{([^{}]*)\}', r'\1', ' '.join(text.split()))
     assert '; '.join(shown for _, shown in OF_OC_CSL) in text.replace('\u00a0', ' ')
+
+
+@pytest.mark.parametrize('style, shown', [
+    ('numeric', 'As Doe [1 (p. 4)] and [2]; Roe; Doe [1], Roe [2].'),
+    ('labels', 'As Doe [Doe99, p. 4] and [Roe00]; Roe; Doe [Doe99], Roe [Roe00].')])
+def test_authors_in_styles_that_write_none(export, cites, style, shown):
+    """As biblatex's \\textcite and \\citeauthor in its styles numeric and alphabetic."""
+    status, out, error = export('As [cite/t:@doe99 p. 4] and [cite:@roe]; [cite/a:@roe]; '
+                                '[cite/t:@doe99;@roe].', style=style, program=False)
+    assert (status, first(out)) == (0, shown), error

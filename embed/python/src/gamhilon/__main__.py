@@ -251,7 +251,7 @@ def run(words: argparse.Namespace) -> int:
         elif words.command == 'latex':
             return latex_command(words)
         elif words.command == 'org':
-            return org_command()
+            return org_command(words.style)
         elif words.command == 'render':
             job = Job(words.to, words.standalone, Limits(words.depth, words.elements))
             return render_command(words.document, words.output, job, words.jobs)
