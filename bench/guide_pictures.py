@@ -1,7 +1,7 @@
 #!/usr/bin/env python3
 """guide_pictures.py [NAME..]: makes docs/GUIDES/pictures, or those of these names: what comes of
 the lines with which a guide begins, in APA style. Needs chromium, pdftoppm, the library
-(embed/build.py), published styles, and for each what its guide is about: Debian's mkdocs, pelican,
+(embed/build.py), published styles, and for each what its guide is about: Debian's mkdocs, pandoc,
 python3-sphinx, texlive-latex-base and emacs-nox."""
 import json
 import os
@@ -37,8 +37,9 @@ WORKS = [
 ]
 TEXT = ('As @darwin1859 [p. 84] says, species vary [@darwin1871, chap. 2; see also '
         '@wallace1855]. What they inherit has the form of a double helix [@watson1953].\n')
-PAGE = ('<!DOCTYPE html><meta charset="utf-8"><style>body {{ font: 16px sans-serif; margin: 24px; }} '
-        'pre {{ background: #f4f4f4; padding: 12px; font-size: 13px; }} {css}</style>{body}')
+PAGE = ('<!DOCTYPE html><meta charset="utf-8"><style>'
+        'body {{ font: 16px sans-serif; margin: 24px; }} pre {{ background: #f4f4f4; '
+        'padding: 12px; font-size: 13px; }} {css}</style>{body}')
 
 
 class Place:
@@ -80,8 +81,7 @@ def markdown(place, picture):
     place.write('post.md', f'# Species\n\n{TEXT}\n# References\n')
     place.run(*OWN, 'markdown', 'post.md', '--bibliography', 'library.json', '--style', 'apa',
               '--output', 'cited.md')
-    place.show_parts(picture, place.run(sys.executable, '-m', 'markdown', '-x', 'md_in_html',
-                                        'cited.md'))
+    place.show_parts(picture, place.run('pandoc', '-f', 'commonmark', '-t', 'html', 'cited.md'))
 
 
 def mkdocs(place, picture):
@@ -96,16 +96,6 @@ def mkdocs(place, picture):
     place.write('docs/references.md', '# References\n')
     place.run(sys.executable, '-m', 'mkdocs', 'build', '--strict', '--quiet')
     place.show(picture, 'site/index.html')
-
-
-def pelican(place, picture):
-    place.write('pelicanconf.py', "SITENAME = 'Species'\nMARKDOWN = {'extensions': "
-                "['markdown.extensions.meta', 'gamhilon.python_markdown'], 'extension_configs': "
-                "{'gamhilon.python_markdown': {'bibliography': 'library.json', 'style': 'apa'}}}\n"
-                "RELATIVE_URLS = True\nTIMEZONE = 'UTC'\n")
-    place.write('content/species.md', f'Title: Species\nDate: 2026-01-01\n\n{TEXT}\n# References\n')
-    place.run(sys.executable, '-m', 'pelican', '-q', 'content', '-s', 'pelicanconf.py', '-o', 'site')
-    place.show(picture, 'site/species.html')
 
 
 def sphinx(place, picture):
@@ -137,8 +127,8 @@ def latex(place, picture):
 def org(place, picture):
     place.write('page.org', '#+title: Species\n#+options: toc:nil num:nil html-postamble:nil\n'
                 '#+bibliography: library.json\n#+cite_export: gamhilon apa\n\n'
-                'Species vary [cite:see @darwin1859 p. 84], as [cite/t:@wallace1855] saw. What they '
-                'inherit has the\nform of a double helix [cite:@watson1953].\n\n'
+                'Species vary [cite:see @darwin1859 p. 84], as [cite/t:@wallace1855] saw. What '
+                'they inherit has the\nform of a double helix [cite:@watson1953].\n\n'
                 '#+print_bibliography:\n')
     command = ' '.join(json.dumps(word) for word in OWN)
     place.run('emacs', '-Q', '--batch', '-L', str(ROOT / 'embed/org'), '-l', 'oc-gamhilon',
@@ -161,8 +151,7 @@ def style(place, picture):
     place.show(picture, 'page.html')
 
 
-MAKERS = {made.__name__: made for made in (markdown, mkdocs, pelican, sphinx, latex, org, python,
-                                           style)}
+MAKERS = {made.__name__: made for made in (markdown, mkdocs, sphinx, latex, org, python, style)}
 
 
 def main(names):

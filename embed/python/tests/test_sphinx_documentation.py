@@ -83,7 +83,8 @@ def lists_by(extension, folder, page, settings='', suffix='rst'):
             for kind, key, author, year in works))
     title = '# Home\n\n' if suffix == 'md' else 'Home\n====\n\n'
     project.write(f'index.{suffix}', f'{title}{page}\n')
-    project.write('about.rst', ':orphan:\n\nAbout\n=====\n\n.. toctree::\n\n   index\n   doc1\n   doc2\n   doc3\n')
+    project.write('about.rst', ':orphan:\n\nAbout\n=====\n\n.. toctree::\n\n   index\n   doc1\n'
+                               '   doc2\n   doc3\n')
     for name, keys in CITED.items():
         cites = ' '.join(f':cite:p:`{key}`' for key in keys.split())
         project.write(f'{name}.rst', f'{name}\n====\n\n{cites}\n')

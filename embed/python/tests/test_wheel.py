@@ -4,6 +4,8 @@ import configparser
 import email
 import hashlib
 import json
+import os
+import re
 import shutil
 import stat
 import subprocess
@@ -13,6 +15,8 @@ import zipfile
 import pytest
 from conftest import PROJECT, ROOT
 from stand_ins import put_program
+
+from gamhilon import _library
 
 sys.path.insert(0, PROJECT)
 import gamhilon_wheel  # noqa: E402
@@ -58,6 +62,21 @@ def test_its_tag_tells_the_glibc_that_the_library_and_the_program_ask_for(wheel)
         assert f'Tag: py3-none-{platform}\n' in told
     (wheel.parent / 'gamhilon').write_bytes(b'GLIBC_2.17\0GLIBC_2.99\0')
     assert gamhilon_wheel.tag().startswith('py3-none-manylinux_2_99_')
+
+
+# What each Linux of a manylinux tag has beside glibc's own (PEP 600, auditwheel's policies).
+EVERYWHERE = {'libc.so.6', 'libm.so.6', 'libdl.so.2', 'librt.so.1', 'libpthread.so.0',
+              'libgcc_s.so.1', 'ld-linux-x86-64.so.2'}
+
+
+def test_what_is_built_needs_what_each_linux_has(built):
+    binaries = [_library.path(), *filter(os.path.exists, [gamhilon_wheel.PROGRAM])]
+    for binary in binaries:
+        told = subprocess.run(['objdump', '-p', binary], capture_output=True, text=True).stdout
+        needed = {line.split()[1] for line in told.splitlines() if line.split()[:1] == ['NEEDED']}
+        assert 'libc.so.6' in needed and needed <= EVERYWHERE
+        versions = re.findall(r'\b(?:GLIBCXX|CXXABI|GCC)_[\d.]+', told)
+        assert versions == [] and 'RUNPATH' not in told and 'RPATH' not in told
 
 
 def test_it_has_the_program_and_no_other_command_of_that_name(wheel):

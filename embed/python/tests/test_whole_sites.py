@@ -1,6 +1,6 @@
 """Sites of 3 and of 50 pages, built by MkDocs and by Pelican as their users do: each by its own
 program, in folders, with what pages have beside citations. The numbers that their citations have
-follow from the order of the pages, each link leads to an item, and each item is on its page once."""
+follow from the order of the pages, each link leads to an item, and each item stands there once."""
 import importlib.util
 import json
 import os
@@ -31,8 +31,8 @@ runpy.run_module({module!r}, run_name='__main__', alter_sys=True)
 '''
 BESIDE = ['```python\n@work1\n```', '| a | b |\n|---|---|\n| [@{0}] | c |', '> [see @{0}, p. 3]',
           '- one [@{0}]\n- two [-@{0}]', 'Code `[@work2]` and mail@work3.org.',
-          '<div>[@work4]</div>', '![Picture](https://example.org/a.png "[@work5]")', '[^n]: A note [@{0}].',
-          'Code:\n\n    [@work6]', '## A heading [@{0}]']
+          '<div>[@work4]</div>', '![Picture](https://example.org/a.png "[@work5]")',
+          '[^n]: A note [@{0}].', 'Code:\n\n    [@work6]', '## A heading [@{0}]']
 THEME = '<html><body>{{ page.content }}</body></html>'
 
 
