@@ -117,7 +117,8 @@ impl Session {
     /// than last time. `bibliography` has the same, with `id` and `ids`, where the style has one.
     ///
     /// In a draft, a cite of an item that isn't there is its id in bold letters, with a question
-    /// mark; it has no number, and is in no list.
+    /// mark. It follows the other cites of its citation, in parentheses; it has no number, and is
+    /// in no list.
     ///
     /// # Errors
     ///
