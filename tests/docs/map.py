@@ -29,6 +29,8 @@ csl_authors csl_cited_mentions csl_requested_mentions csl_told_cites csl_assembl
 # The writer of layouts in JSON, and what the driver does in the modes `three` and `full`.
 PORT = '''csl_lookup csl_styles csl_context csl_picking csl_writing csl_positions csl_ambiguity csl_name_marks csl_grouping
 csl_collapse csl_substitution csl_rounds csl_assembly csl_passes csl_driver'''.split()
+# Modules whose names of options are those of a call, and not of CSL.
+OF_CALLS = ('cite_call::calling', 'cite_call::options')
 # How many modules a row names at most: those that have the name most often.
 MOST = 3
 
@@ -238,7 +240,7 @@ def modules(crates, pattern):
     """The modules of crates whose code has what a pattern matches; those that have it most often."""
     if pattern is None:
         return []
-    counts = [(len(re.findall(pattern, code)), name) for crate in crates for name, code in code_of(crate).items()]
+    counts = [(len(re.findall(pattern, code)), name) for crate in crates for name, code in code_of(crate).items() if name not in OF_CALLS]
     found = sorted((it for it in counts if it[0]), key=lambda it: (-it[0], it[1]))[:MOST]
     return [name for _, name in found]
 
