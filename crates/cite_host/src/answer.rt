@@ -84,7 +84,7 @@ impl<'d> Document<'d> {
     ///
     /// # Errors
     ///
-    /// Those of `answer`; then `kept` is as good as before.
+    /// Those of `answer`; then `kept` may have lost what it had.
     pub fn answer_with(&self, alloc: Global, kept: &mut KeptTexts) -> Result<Answer, AnswerError> {
         kept.begin_answer();
         let cited = cited_references(alloc, self.references, self.citations)?;
@@ -137,8 +137,9 @@ impl<'d> Document<'d> {
         kept: &mut KeptTexts,
     ) -> Result<Rendered, AnswerError> {
         let style = driven_style(alloc, self.style, self.has_notes(setting))?;
-        let writer = TaskWriter::new(alloc, setting, items, citations, self.lists_items, kept);
-        rendered_in(alloc, &style, items, writer)
+        let own = kept.taken(alloc);
+        let writer = TaskWriter::new(alloc, setting, items, citations, self.lists_items, own);
+        rendered_in(alloc, &style, items, writer, kept)
     }
 
     /// Whether the driver gets the numbers of notes: the style asks where cites stand, and it is
@@ -269,12 +270,13 @@ fn places_at<'s>(sorted: &'s [SortedCitation<'_>], place: usize) -> &'s [usize] 
     }
 }
 
-/// What the driver answers in this style.
+/// What the driver answers in this style. What the writer wrote is kept.
 fn rendered_in<'e>(
     alloc: Global,
     style: &'e IndependentStyle,
     items: &'e Items<'_>,
-    writer: TaskWriter<'_, '_, '_, '_>,
+    writer: TaskWriter<'_, '_, '_>,
+    kept: &mut KeptTexts,
 ) -> Result<Rendered, AnswerError> {
     let locators = locators_of(alloc, writer.citations)?;
     let driver = filled_driver(alloc, &*style, &*items, writer.citations, &locators)?;
@@ -282,7 +284,10 @@ fn rendered_in<'e>(
     for entry in &items.entries {
         order.push(entry)?;
     }
-    rendered_by(&driver, style, &order, &mut Memo::new(alloc, writer))
+    let mut memo = Memo::new(alloc, writer);
+    let rendered = rendered_by(&driver, style, &order, &mut memo);
+    *kept = memo.source.kept.taken(alloc);
+    rendered
 }
 
 /// What the driver answers, with the entries of the bibliography in this order.
@@ -290,7 +295,7 @@ fn rendered_by<'e>(
     driver: &Driver<'e>,
     style: &IndependentStyle,
     order: &[&'e PlainEntry],
-    memo: &mut Memo<TaskWriter<'_, '_, '_, '_>>,
+    memo: &mut Memo<TaskWriter<'_, '_, '_>>,
 ) -> Result<Rendered, AnswerError> {
     let request = bibliography_request(style, order);
     match driver.answer_csl_with(&request, memo) {

@@ -8,6 +8,7 @@ use csl_writers::cite::Cite;
 use host_memo::table::copied;
 use std::alloc::{AllocError, Global};
 use std::collections::BTreeMap;
+use std::mem::replace;
 
 /// For how many answers a text stays that none of them asks for.
 const ANSWERS: usize = 2;
@@ -82,6 +83,12 @@ impl KeptTexts {
         self.versions.insert(id.clone()?, version)?;
         self.next_version = version.saturating_add(1);
         Ok(version)
+    }
+
+    /// All that is here; nothing is left.
+    pub(crate) fn taken(&mut self, alloc: Global) -> KeptTexts {
+        let keeps_items = self.keeps_items;
+        replace(self, KeptTexts::keeping(alloc, keeps_items))
     }
 
     /// Another answer begins.

@@ -30,7 +30,7 @@ struct CiteStanding {
     first_note_number: Option<usize>,
 }
 
-impl<'s, 'i, 'd, 'w> TaskWriter<'s, 'i, 'd, 'w> {
+impl<'s, 'i, 'd> TaskWriter<'s, 'i, 'd> {
     /// All that the text of a cite depends on; none where it has a locator, or stands apart.
     pub(crate) fn plain_cite(&self, asked: Asked<'_>) -> Result<Option<PlainCite>, AllocError> {
         if let Some(cite) = self.shown_cite(asked) {

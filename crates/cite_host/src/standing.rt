@@ -8,7 +8,7 @@ use csl_lookup::means::{Means, is_chosen, suffix_told};
 use csl_lookup::state::{CollapseVerdict, IbidState};
 use host_memo::key::Standing;
 
-impl<'s, 'i, 'd, 'w> TaskWriter<'s, 'i, 'd, 'w> {
+impl<'s, 'i, 'd> TaskWriter<'s, 'i, 'd> {
     /// What is known of a cite, if its item is there.
     pub(crate) fn cite_facts<'f, 'k: 'f>(&'f self, asked: Asked<'k>) -> Option<CiteFacts<'f>> {
         let reference = self.items.reference(asked.item)?;

@@ -32,7 +32,7 @@ use style_file::style::StyleClass;
 
 /// Writes the tasks of a document.
 #[derive(Drop)]
-pub(crate) struct TaskWriter<'s, 'i, 'd, 'w> {
+pub(crate) struct TaskWriter<'s, 'i, 'd> {
     pub alloc: Global,
     pub setting: Setting<'s>,
     pub items: &'i Items<'d>,
@@ -40,7 +40,7 @@ pub(crate) struct TaskWriter<'s, 'i, 'd, 'w> {
     /// Whether the items of the bibliography are wanted.
     lists_items: bool,
     /// What was written, by this answer and others.
-    kept: &'w mut KeptTexts,
+    pub kept: KeptTexts,
 }
 
 /// What marks the first field of an item as a whole: the driver sets apart what is marked first.
@@ -58,7 +58,7 @@ pub(crate) struct Asked<'k> {
     pub verdict: Option<CollapseVerdict>,
 }
 
-impl<'s, 'i, 'd, 'w> Source for TaskWriter<'s, 'i, 'd, 'w> {
+impl<'s, 'i, 'd> Source for TaskWriter<'s, 'i, 'd> {
     type Error = LimitError;
 
     fn write(&mut self, alloc: Global, key: &TaskKey) -> Result<driver::Cite, LimitError> {
@@ -79,7 +79,7 @@ impl<'s, 'i, 'd, 'w> Source for TaskWriter<'s, 'i, 'd, 'w> {
     }
 }
 
-impl<'s, 'i, 'd, 'w> TaskWriter<'s, 'i, 'd, 'w> {
+impl<'s, 'i, 'd> TaskWriter<'s, 'i, 'd> {
     /// A writer that has written what is kept.
     pub fn new(
         alloc: Global,
@@ -87,8 +87,8 @@ impl<'s, 'i, 'd, 'w> TaskWriter<'s, 'i, 'd, 'w> {
         items: &'i Items<'d>,
         citations: &'i [SortedCitation<'d>],
         lists_items: bool,
-        kept: &'w mut KeptTexts,
-    ) -> TaskWriter<'s, 'i, 'd, 'w> {
+        kept: KeptTexts,
+    ) -> TaskWriter<'s, 'i, 'd> {
         TaskWriter {
             alloc,
             setting,
