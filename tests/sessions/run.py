@@ -197,7 +197,7 @@ REFUSED = {
 
 def try_refused(program, told, part):
     said = answers(program, ONE + told)[-1]
-    if part not in said.get('refused', '-'):
+    if 'refused' not in said or part not in said['refused']:
         raise Failed('%r, wanted a refusal with %r' % (said, part))
 
 
