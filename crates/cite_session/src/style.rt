@@ -1,0 +1,59 @@
+//! The style of a session.
+use crate::texts::SessionTexts;
+use cite_call::error::CallError;
+use cite_call::options::{AnswerForm, CallOptions, OptionsOf, wrong_option};
+use cite_call::reader::TextReader;
+use cite_call::remark::Remark;
+use cite_call::styling::Styling;
+use std::alloc::Global;
+use write_forms::forms::Form;
+
+/// A style with its locales and options.
+#[derive(Drop)]
+pub(crate) struct SessionStyle {
+    /// The text of the style file.
+    pub text: Vec<u8>,
+    pub styling: Styling,
+    /// The form of what is written.
+    pub form: Form,
+    /// What is odd in the texts.
+    pub warnings: Vec<Remark>,
+}
+
+impl SessionStyle {
+    /// The style that texts are.
+    ///
+    /// # Errors
+    ///
+    /// `Fault` with the first thing that is wrong: in the options, the style or the locale files;
+    /// `LimitExceeded` where the style takes more than its limits; `OutOfMemory`.
+    pub fn read(alloc: Global, texts: SessionTexts<'_>) -> Result<SessionStyle, CallError> {
+        let mut reader = TextReader::new(alloc);
+        let styling = reader.styling(
+            texts.style,
+            texts.locales,
+            texts.options,
+            OptionsOf::Session,
+        )?;
+        let form = form_of(alloc, &styling.options)?;
+        styling.check(alloc, texts.style)?;
+        Ok(SessionStyle {
+            text: Vec::from_slice(alloc, texts.style)?,
+            styling,
+            form,
+            warnings: reader.warnings,
+        })
+    }
+}
+
+/// The form of texts that options name.
+fn form_of(alloc: Global, options: &CallOptions) -> Result<Form, CallError> {
+    match options.form {
+        None => Ok(Form::Text),
+        Some(AnswerForm::Lines(form)) => Ok(form),
+        Some(AnswerForm::Json) => {
+            let why = "wanted `text`, `html`, `markdown` or `latex`";
+            Err(wrong_option(alloc, "form", why))
+        }
+    }
+}

@@ -1,0 +1,64 @@
+//! The document is written.
+use crate::citations::KeyedCitations;
+use crate::draft::add_missing;
+use crate::library::Library;
+use crate::style::SessionStyle;
+use crate::written::WrittenTexts;
+use cite_call::error::CallError;
+use cite_call::styling::CitedItems;
+use cite_host::kept::KeptTexts;
+use std::alloc::Global;
+
+/// In what a document is written.
+#[derive(Clone, Copy)]
+pub(crate) struct Materials<'s> {
+    pub style: &'s SessionStyle,
+    pub library: &'s Library,
+}
+
+impl<'s> Materials<'s> {
+    /// The texts of citations, and of the items of the bibliography; `missing` has the ids that
+    /// each citation cites beside, and that aren't there.
+    ///
+    /// # Errors
+    ///
+    /// `Fault` where an item is cited that isn't there, or the macros of the style are too long;
+    /// `LimitExceeded` where the style takes more than its limits; `TooManyItems`; `OutOfMemory`.
+    pub fn written(
+        self,
+        alloc: Global,
+        citations: &mut KeyedCitations,
+        missing: &[Vec<String>],
+        kept: &mut KeptTexts,
+    ) -> Result<WrittenTexts, CallError> {
+        if self.style.styling.options.lists_all {
+            citations.push_uncited(alloc, self.library)?;
+        }
+        let texts = self.written_all(alloc, citations, missing, kept);
+        citations.leave_out_uncited();
+        texts
+    }
+
+    /// The same, where the last citation has no key if all items are listed.
+    fn written_all(
+        self,
+        alloc: Global,
+        citations: &KeyedCitations,
+        missing: &[Vec<String>],
+        kept: &mut KeptTexts,
+    ) -> Result<WrittenTexts, CallError> {
+        let styling = &self.style.styling;
+        let locale = styling.locale(alloc)?;
+        let document = CitedItems {
+            references: self.library.references(),
+            citations: &citations.citations,
+        };
+        let text = self.style.text.as_slice();
+        let mut answer = styling.answer_with(alloc, text, &locale, document, kept)?;
+        add_missing(alloc, &mut answer.citations, missing)?;
+        let form = self.style.form;
+        let marks = locale.quote_marks();
+        let texts = WrittenTexts::of_answer(alloc, form, &citations.keys, &answer, marks)?;
+        Ok(texts)
+    }
+}
