@@ -216,13 +216,13 @@ DRAFT = [line('open', AUTHOR_DATE + ' {"draft": true, "form": "markdown"}'), lin
 
 
 def try_draft(program):
-    """A cite of an item that isn't there is its id, as pandoc has it, behind the others, and is warned of
-    with the nearest id."""
+    """A cite of an item that isn't there is its id, as pandoc has it, and is warned of with the nearest
+    id."""
     told = DRAFT + [line('citations', [cited('x', 'knuth1948'), cited('y', 'knuth1984', 'knuth1948')]), line('answer', ''),
                     line('warnings', '')]
     *_, answer, warnings = answers(program, told)
     got = {it['key']: it['text'] for it in answer['citations']['changed']}
-    if got != {'x': '(**knuth1948?**)', 'y': '(Knuth 1984) (**knuth1948?**)'}:
+    if got != {'x': '(**knuth1948?**)', 'y': '(Knuth 1984; **knuth1948?**)'}:
         raise Failed('%r' % got)
     if [it['id'] for it in answer['bibliography']['changed']] != ['knuth1984']:
         raise Failed('the list is %r' % answer['bibliography'])

@@ -157,6 +157,22 @@ def abbreviated(name, status, lines, abbreviations, out='', references=JOURNAL, 
                  {'s.csl': style_of(layout), 'r.json': references, 'a.json': abbreviations}, out=out)
 
 
+# What a draft cites: a book of Knuth, two of Doe, and one of Roe.
+WORKS = json.dumps([{'id': key, 'type': 'book', 'title': title, 'author': [{'family': family, 'given': 'Ann'}],
+                     'issued': {'date-parts': [[year]]}}
+                    for key, family, title, year in (('knuth', 'Knuth', 'A', 1984), ('doe', 'Doe', 'B', 1999),
+                                                     ('doe2', 'Doe', 'C', 2001), ('roe', 'Roe', 'D', 2000))])
+
+
+def drafted(name, style, cites, out, places=('0/0',), references=WORKS, lines=()):
+    """A call of `cite` on a draft, in a style that is built in, as HTML; a cite is an id, or an object. Of
+    the cites at these places the items aren't there: what stands for them is what pandoc 2.17 writes."""
+    citation = [cite if isinstance(cite, dict) else {'id': cite} for cite in cites]
+    missing = ['FILE/c.json: warning: /%s: there is no item `%s`' % (place, citation[int(place.split('/')[1])]['id']) for place in places]
+    return Fault(name, ['cite', '--draft', '--to', 'html', '--style', style, 'FILE/r.json', 'FILE/c.json'], 0, [*lines, *missing],
+                 {'r.json': references, 'c.json': json.dumps([citation])}, out=out + '\n')
+
+
 def rendered(name, status, lines, document, out='', words=()):
     """A call of `render` on a document in a file."""
     return Fault(name, ['render', *words, 'FILE/d.json'], status, lines, {'d.json': document}, None, out)
@@ -455,6 +471,29 @@ FAULTS = [
     Fault('citations beside what is not cited', ['cite', '--nocite', '--style', 'FILE/s.csl', 'FILE/r.json', 'FILE/c.json'], 0, [], TWO,
           out='B\n'),
     Fault('all references', ['bibliography', '--style', 'FILE/s.csl', 'FILE/r.json'], 0, [], TWO, out='A\nB\n'),
+    # Drafts
+    drafted('a draft that cites what is not there', 'author-date', ['nobody'], '(<b>nobody?</b>)'),
+    drafted('a draft with two cites of what is not there', 'numeric', ['nobody', 'nemo'], '[<b>nobody?</b>, <b>nemo?</b>]', ('0/0', '0/1')),
+    drafted('what is missing follows cites that are sorted', 'author-date', ['nobody', 'knuth'], '(Knuth 1984; <b>nobody?</b>)'),
+    drafted('what is missing between cites that are sorted', 'author-date', ['doe', 'nobody', 'doe2'], '(Doe 1999, 2001; <b>nobody?</b>)',
+            ('0/1',)),
+    drafted('what is missing beside a range', 'numeric', ['knuth', 'doe', 'nobody', 'doe2', 'roe'], '[1–4, <b>nobody?</b>]', ('0/2',)),
+    drafted('what is missing in a style of labels', 'labels', ['doe', 'nobody', 'knuth'], '[Doe99; Knut84; <b>nobody?</b>]', ('0/1',)),
+    drafted('what is missing between words', 'author-date', ['knuth', {'id': 'nobody', 'prefix': 'see ', 'suffix': ' and more', 'locator': '3'}],
+            '(Knuth 1984; see <b>nobody?</b> and more)', ('0/1',)),
+    drafted('what is missing between cites in their order', 'notes', ['knuth', 'nobody', 'doe'],
+            'Ann Knuth, <i>A</i> (1984); <b>nobody?</b>; Ann Doe, <i>B</i> (1999).', ('0/1',)),
+    drafted('what is missing behind cites in their order', 'notes', ['knuth', 'nobody'], 'Ann Knuth, <i>A</i> (1984); <b>nobody?</b>', ('0/1',)),
+    drafted('what is hidden and missing', 'author-date', ['knuth', {'id': 'nobody', 'hidden': True}], '(Knuth 1984)', ('0/1',)),
+    drafted('the author alone of what is missing', 'author-date', [{'id': 'nobody', 'author-only': True}], '<b>nobody?</b>'),
+    drafted('an item with a fault in a draft', 'author-date', ['knuth', 'doe'], '(Knuth 1984; <b>doe?</b>)', ('0/1',),
+            WORKS.replace('"B", "author": [', '"B", "author": [[], '),
+            ['FILE/r.json: warning: /1/author/0: found a list, wanted a name, …']),
+    Fault('a draft with an id that is nearly there', ['cite', '--draft', '--style', 'author-date', 'FILE/r.json', 'FILE/c.json'], 0,
+          ['FILE/c.json: warning: /0/0: there is no item `knuht`; is it `knuth`?'],
+          {'r.json': WORKS, 'c.json': '[[{"id": "knuht"}]]'}, out='(knuht?)\n'),
+    Fault('the bibliography of a draft', ['bibliography', '--draft', '--style', 'FILE/s.csl', 'FILE/r.json', 'FILE/c.json'], 0,
+          ['FILE/c.json: warning: /0/1: there is no item `nobody`'], {**TWO, 'c.json': '[[{"id": "b"}, {"id": "nobody"}]]'}, out='B\n'),
     # Styles that are built in
     Fault('no style of this name is built in', ['styles', 'apa'], 64,
           ['gamhilon: there is no style `apa`: the styles are author-date, labels, notes, numeric']),

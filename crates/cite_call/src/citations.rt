@@ -2,13 +2,15 @@
 use crate::error::CallError;
 use crate::json::{no_json, no_utf8, wrong_part};
 use crate::reader::TextReader;
+use crate::remark::TextPlace;
 use crate::texts::TextName;
 use cite_host::cites::Citation;
 use cite_json::fault::CitationsError;
 use cite_json::notes::number_notes;
 use cite_json::reading::{ReadCitations, read_citations};
+use cite_json::unknown::{KnownItems, UnknownItem, unknown_items, with_missing};
 use csl_references::reference::References;
-use std::alloc::Global;
+use std::alloc::{AllocError, Global};
 
 impl TextReader {
     /// The citations of JSON, whose cites are of these items. Where some have the number of a
@@ -25,6 +27,40 @@ impl TextReader {
         let read = self.citations_of_any(bytes)?;
         check_ids(self.alloc, &read.citations, references)?;
         Ok(read.citations)
+    }
+
+    /// The citations of a draft, whose cites of other items than these are missing ones; `sorts`
+    /// says whether the style sorts cites.
+    ///
+    /// # Errors
+    ///
+    /// `Fault` where the text is none; `OutOfMemory`.
+    pub(crate) fn drafted_citations(
+        &mut self,
+        bytes: &[u8],
+        references: &References,
+        sorts: bool,
+    ) -> Result<Vec<Citation>, CallError> {
+        let read = self.citations_of_any(bytes)?;
+        self.warn_of_unknown(&read.citations, references)?;
+        Ok(with_missing(self.alloc, &read.citations, references, sorts)?)
+    }
+
+    /// Warns of the cites of other items than these.
+    ///
+    /// # Errors
+    ///
+    /// Where memory is refused.
+    pub fn warn_of_unknown<I: KnownItems>(
+        &mut self,
+        citations: &[Citation],
+        items: &I,
+    ) -> Result<(), AllocError> {
+        for item in unknown_items(self.alloc, citations, items)? {
+            let pointer = unknown_place(self.alloc, &item)?;
+            self.warn(TextName::Citations, TextPlace::Pointer(pointer), &item)?;
+        }
+        Ok(())
     }
 
     /// The citations of JSON, with their ids, whatever items they cite. Where some have the number
@@ -60,6 +96,13 @@ fn citations_refusal(alloc: Global, error: &CitationsError) -> CallError {
         }
         CitationsError::OutOfMemory => CallError::OutOfMemory,
     }
+}
+
+/// The way to the id of an item that isn't there.
+fn unknown_place(alloc: Global, item: &UnknownItem) -> Result<String, AllocError> {
+    let citation = item.citation;
+    let cite = item.cite;
+    format!(in alloc; "/{citation}/{cite}/id")
 }
 
 /// Refuses a cite of an item that isn't there.

@@ -1,6 +1,5 @@
 //! The document that the texts of a call are.
 use crate::error::CallError;
-use crate::options::OptionsOf;
 use crate::reader::TextReader;
 use crate::styling::Styling;
 use crate::texts::CallTexts;
@@ -26,9 +25,15 @@ impl TextReader {
     /// `Fault` with the first thing that is wrong: in the options, the style, the locale files, the
     /// items, or the citations; `OutOfMemory`.
     pub(crate) fn document(&mut self, texts: CallTexts<'_>) -> Result<CallDocument, CallError> {
-        let styling = self.styling(texts.style, texts.locales, texts.options, OptionsOf::Call)?;
-        let references = self.items(texts.items)?;
-        let mut citations = self.citations(texts.citations, &references)?;
+        let styling = self.styling(texts.style, texts.locales, texts.options)?;
+        let is_draft = styling.options.is_draft;
+        let references = self.items(texts.items, is_draft)?;
+        let mut citations = if is_draft {
+            let sorts = !styling.style.citation.sort.is_empty();
+            self.drafted_citations(texts.citations, &references, sorts)?
+        } else {
+            self.citations(texts.citations, &references)?
+        };
         let shown = citations.len();
         if styling.options.lists_all {
             let uncited = uncited(self.alloc, &references, &citations)?;

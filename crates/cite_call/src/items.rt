@@ -4,18 +4,23 @@ use crate::json::{no_json, no_utf8, wrong_part};
 use crate::reader::TextReader;
 use crate::texts::TextName;
 use csl_json::fault::{Fault, ReferencesError};
-use csl_json::reading::read_references;
+use csl_json::reading::{read_references, read_sound_references};
 use csl_references::reference::References;
 use std::alloc::Global;
 
 impl TextReader {
-    /// The items of CSL-JSON.
+    /// The items of CSL-JSON. Of a draft, an item with a fault is left out, with a warning.
     ///
     /// # Errors
     ///
     /// `Fault` where the text is none; `OutOfMemory`.
-    pub fn items(&mut self, bytes: &[u8]) -> Result<References, CallError> {
-        match read_references(self.alloc, bytes) {
+    pub fn items(&mut self, bytes: &[u8], is_draft: bool) -> Result<References, CallError> {
+        let read = if is_draft {
+            read_sound_references(self.alloc, bytes)
+        } else {
+            read_references(self.alloc, bytes)
+        };
+        match read {
             Ok(read) => {
                 for warning in &read.warnings {
                     self.warn_of_part(TextName::Items, &warning.pointer, &warning.kind)?;

@@ -29,14 +29,6 @@ pub struct CallOptions {
     pub is_draft: bool,
 }
 
-/// Whose options are read.
-#[derive(Clone, Copy, PartialEq, Eq)]
-pub enum OptionsOf {
-    Call,
-    /// Those of a session, which may have `draft` too.
-    Session,
-}
-
 /// The form of an answer.
 #[derive(Clone, Copy, PartialEq, Eq)]
 pub enum AnswerForm {
@@ -51,11 +43,7 @@ pub enum AnswerForm {
 /// # Errors
 ///
 /// `Fault` where it is no object of options; `OutOfMemory`.
-pub(crate) fn options_of(
-    alloc: Global,
-    bytes: &[u8],
-    owner: OptionsOf,
-) -> Result<CallOptions, CallError> {
+pub(crate) fn options_of(alloc: Global, bytes: &[u8]) -> Result<CallOptions, CallError> {
     let mut options = CallOptions {
         language: None,
         lists_all: false,
@@ -79,7 +67,7 @@ pub(crate) fn options_of(
     };
     for key in object.keys() {
         if let Some(value) = object.get(key.as_str()) {
-            set_option(alloc, &mut options, owner, key.as_str(), value)?;
+            set_option(alloc, &mut options, key.as_str(), value)?;
         }
     }
     Ok(options)
@@ -88,7 +76,6 @@ pub(crate) fn options_of(
 fn set_option(
     alloc: Global,
     options: &mut CallOptions,
-    owner: OptionsOf,
     key: &str,
     value: &Value,
 ) -> Result<(), CallError> {
@@ -104,27 +91,18 @@ fn set_option(
         "abbreviations" => options.abbreviations = Some(abbreviations_in(alloc, value)?),
         "limits" => options.part = part_in(alloc, value)?,
         "form" => options.form = Some(form_in(alloc, value)?),
-        "draft" if owner == OptionsOf::Session => match value {
+        "draft" => match value {
             Value::Bool(is_draft) => options.is_draft = *is_draft,
             _ => return Err(wrong_option(alloc, key, "wanted true or false")),
         },
-        _ => return Err(wrong_option(alloc, key, unknown_key(owner))),
+        _ => return Err(wrong_option(alloc, key, UNKNOWN_KEY)),
     }
     Ok(())
 }
 
 /// What is wrong with an unknown key.
-fn unknown_key(owner: OptionsOf) -> &'static str {
-    match owner {
-        OptionsOf::Call => {
-            "unknown key; the options are `locale`, `nocite`, `abbreviations`, `limits` and `form`"
-        }
-        OptionsOf::Session => {
-            "unknown key; the options are `locale`, `nocite`, `abbreviations`, `limits`, `form` \
-             and `draft`"
-        }
-    }
-}
+const UNKNOWN_KEY: &str = "unknown key; the options are `locale`, `nocite`, `abbreviations`, \
+    `limits`, `form` and `draft`";
 
 /// The form that the value names.
 fn form_in(alloc: Global, value: &Value) -> Result<AnswerForm, CallError> {

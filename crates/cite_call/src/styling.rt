@@ -1,6 +1,6 @@
 //! A style in use.
 use crate::error::{CallError, answer_refusal};
-use crate::options::{CallOptions, OptionsOf, options_of};
+use crate::options::{CallOptions, options_of};
 use crate::reader::TextReader;
 use cite_host::answer::{Answer, Document};
 use cite_host::cites::Citation;
@@ -46,9 +46,8 @@ impl TextReader {
         style: &[u8],
         locales: &[u8],
         options: &[u8],
-        owner: OptionsOf,
     ) -> Result<Styling, CallError> {
-        let options = options_of(self.alloc, options, owner)?;
+        let options = options_of(self.alloc, options)?;
         let style = self.style(style)?;
         let language = language_of(self.alloc, &options, &style)?;
         let locales = self.locales(locales, language.as_str())?;

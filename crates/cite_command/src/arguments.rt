@@ -54,6 +54,9 @@ pub struct Options {
     pub links_citations: bool,
     /// Whether references that aren't cited are listed.
     pub lists_uncited: bool,
+    /// Whether cites of items that aren't there stand as their ids, and items with a fault are left
+    /// out.
+    pub is_draft: bool,
     /// The file of abbreviations.
     pub abbreviations: Option<String>,
     /// How many steps the style may take for each cite and each item, where the command line says

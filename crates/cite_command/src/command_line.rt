@@ -95,7 +95,7 @@ fn writing<'a>(
 }
 
 /// The options of a command that writes, and its files.
-fn words<'a>(alloc: Global, citations: Arg<'a>) -> [Arg<'a>; 13] {
+fn words<'a>(alloc: Global, citations: Arg<'a>) -> [Arg<'a>; 14] {
     let formats: &'a [&'a str] = &["text", "html", "markdown", "latex", "json"];
     [
         style(alloc),
@@ -119,6 +119,11 @@ fn words<'a>(alloc: Global, citations: Arg<'a>) -> [Arg<'a>; 13] {
             alloc,
             "nocite",
             "References that aren't cited are listed, too",
+        ),
+        flag(
+            alloc,
+            "draft",
+            "Cites of items that aren't there stand as their ids, with a question mark",
         ),
         limit(
             alloc,

@@ -111,6 +111,7 @@ fn options_in(alloc: Global, words: &ArgMatches<'_>) -> Result<Options, CommandL
         has_bibliography: false,
         links_citations: false,
         lists_uncited: words.get_flag("nocite"),
+        is_draft: words.get_flag("draft"),
         abbreviations: text_at(alloc, words, "abbreviations")?,
         most_steps: words.get_one::<usize>("most-steps"),
         most_bytes: words.get_one::<usize>("most-bytes"),

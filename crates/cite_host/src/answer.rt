@@ -3,7 +3,7 @@ use crate::cites::Citation;
 use crate::driven::driven_style;
 use crate::entries::{Items, cited_references};
 use crate::error::AnswerError;
-use crate::joining::joined;
+use crate::joining::{in_layout, joined};
 use crate::kept::KeptTexts;
 use crate::limits::{budget_of, programs_within, spend_around};
 use crate::requests::{Driver, bibliography_request, filled_driver, locators_of};
@@ -14,8 +14,6 @@ use cite_collation::alphabets::Alphabet;
 use cite_limits::budget::Budget;
 use cite_limits::cost::Cost;
 use cite_locale::chain::LocaleChain;
-use cite_pieces::formatting::NOTHING_ASKED;
-use cite_pieces::piece::Wrap;
 use cite_pieces::pieces::Pieces;
 use cite_pieces::punctuation::punctuated;
 use cite_trees::streams::{cites_of, stream_of, stream_of_child};
@@ -189,7 +187,8 @@ impl<'d> Document<'d> {
         asked: &Citation,
     ) -> Result<Pieces, AllocError> {
         let cites = cites_of(alloc, &citation.citation)?;
-        let stream = joined(alloc, cites, places)?;
+        let layout = &self.style.citation.layout;
+        let stream = joined(alloc, layout, asked, cites, places)?;
         let stream = self.enclosed(alloc, stream, asked)?;
         punctuated(alloc, stream, self.locale.has_punctuation_in_quotes())
     }
@@ -202,25 +201,15 @@ impl<'d> Document<'d> {
         stream: Pieces,
         asked: &Citation,
     ) -> Result<Pieces, AllocError> {
-        if stream.has_no_text() || asked.cites.iter().any(|cite| cite.is_author_only) {
+        if stream.has_no_text() || asked.has_author_alone() {
             return Ok(stream);
         }
-        let affixes = &self.style.citation.layout.affixes;
-        let mut out = self.affix(alloc, affixes.prefix.as_str())?;
+        let layout = &self.style.citation.layout;
+        let prefix = Pieces::of_str(alloc, layout.affixes.prefix.as_str())?;
+        let suffix = Pieces::of_str(alloc, layout.affixes.suffix.as_str())?;
+        let mut out = in_layout(alloc, layout, prefix)?;
         out.push_pieces(stream)?;
-        out.push_pieces(self.affix(alloc, affixes.suffix.as_str())?)?;
-        Ok(out)
-    }
-
-    /// A text in the formatting of the layout of citations.
-    fn affix(&self, alloc: Global, text: &str) -> Result<Pieces, AllocError> {
-        let affix = Pieces::of_str(alloc, text)?;
-        let formatting = self.style.citation.layout.formatting;
-        if formatting == NOTHING_ASKED {
-            return Ok(affix);
-        }
-        let mut out = Pieces::new(alloc);
-        out.push_wrapped(Wrap::Formatting(formatting), affix)?;
+        out.push_pieces(in_layout(alloc, layout, suffix)?)?;
         Ok(out)
     }
 

@@ -67,26 +67,33 @@ fn begins_with_term(pieces: &Pieces) -> bool {
     false
 }
 
+/// The words that stand around a cite, with markup.
+#[derive(Clone, Copy)]
+pub(crate) struct Around<'c> {
+    pub prefix: &'c str,
+    pub suffix: &'c str,
+}
+
 /// A cite between the words that stand around it. Where these have no space of their own beside it,
 /// one is put in. Words that begin a note begin with a capital.
 pub(crate) fn with_affixes(
     alloc: Global,
     pieces: Pieces,
-    cite: &Cite,
+    around: Around<'_>,
     begins_note: bool,
 ) -> Result<Pieces, AllocError> {
-    let words = cite.prefix.as_str().trim_end_matches(' ');
+    let words = around.prefix.trim_end_matches(' ');
     let prefix = of_markup(alloc, words)?;
     let mut out = if begins_note {
         with_capital(alloc, prefix)?
     } else {
         prefix
     };
-    if words.len() < cite.prefix.len() || out.last_char().is_some_and(needs_space_behind) {
+    if words.len() < around.prefix.len() || out.last_char().is_some_and(needs_space_behind) {
         out.push_str(alloc, " ")?;
     }
     out.push_pieces(pieces)?;
-    let suffix = of_markup(alloc, cite.suffix.as_str())?;
+    let suffix = of_markup(alloc, around.suffix)?;
     if suffix.first_char().is_some_and(needs_space_before) {
         out.push_str(alloc, " ")?;
     }

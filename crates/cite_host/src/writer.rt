@@ -5,7 +5,7 @@ use crate::plain_cites::PlainCite;
 use crate::programs::BibliographyProgram;
 use crate::setting::Setting;
 use crate::sorting::SortedCitation;
-use crate::wording::{author_alone, begins_sentence, with_affixes, with_capital_term};
+use crate::wording::{Around, author_alone, begins_sentence, with_affixes, with_capital_term};
 use cite_limits::cost::Cost;
 use cite_limits::error::{LimitError, StylePlace};
 use cite_pieces::formatting::TextFormatting;
@@ -185,7 +185,11 @@ impl<'s, 'i, 'd> TaskWriter<'s, 'i, 'd> {
             pieces
         };
         let begins_note = is_in_note && own == 0 && self.is_alone(citation);
-        with_affixes(self.alloc, pieces, cite, begins_note)
+        let around = Around {
+            prefix: cite.prefix.as_str(),
+            suffix: cite.suffix.as_str(),
+        };
+        with_affixes(self.alloc, pieces, around, begins_note)
     }
 
     /// Whether nothing else stands in the note of a citation.

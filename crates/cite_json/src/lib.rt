@@ -7,4 +7,5 @@ pub mod listing;
 pub mod notes;
 mod oddities;
 pub mod reading;
+pub mod unknown;
 pub mod warning;

@@ -30,13 +30,14 @@ pub fn uncited(
 ) -> Result<Citation, AllocError> {
     let cited = cited_ids(alloc, citations)?;
     let mut cites = Vec::new(alloc);
-    for reference in references.as_slice() {
+    for (place, reference) in references.as_slice().iter().enumerate() {
         if !cited.contains(&reference.id) {
-            cites.push(hidden_cite(alloc, &reference.id)?)?;
+            cites.push(hidden_cite(alloc, &reference.id, place)?)?;
         }
     }
     Ok(Citation {
         cites,
+        missing_behind: Vec::new(alloc),
         note: None,
         is_alone: false,
         is_unsorted: false,
@@ -54,14 +55,16 @@ fn cited_ids(alloc: Global, citations: &[Citation]) -> Result<BTreeSet<String>, 
     Ok(ids)
 }
 
-fn hidden_cite(alloc: Global, id: &String) -> Result<Cite, AllocError> {
+fn hidden_cite(alloc: Global, id: &String, place: usize) -> Result<Cite, AllocError> {
     Ok(Cite {
         id: id.clone()?,
+        place,
         locator: None,
         prefix: String::new(alloc),
         suffix: String::new(alloc),
         suppresses_author: false,
         is_author_only: false,
         is_hidden: true,
+        missing_before: Vec::new(alloc),
     })
 }

@@ -261,11 +261,12 @@ impl Reader {
             let Some(object) = member.as_object() else {
                 return Err(refusal(place.pointer(self.alloc)?, Wanted::Cite));
             };
-            cites.push(self.cite(place, object)?)?;
+            cites.push(self.cite(place, cite, object)?)?;
             note = self.note_with(place, object, properties, note)?;
         }
         Ok(Citation {
             cites,
+            missing_behind: Vec::new(self.alloc),
             note,
             is_alone: note.is_none(),
             is_unsorted: properties.is_unsorted,
@@ -288,7 +289,13 @@ impl Reader {
         Ok(note.or(own))
     }
 
-    fn cite(&mut self, place: Place, object: &Map<String, Value>) -> Result<Cite, CitationsError> {
+    /// The cite of this number in its citation.
+    fn cite(
+        &mut self,
+        place: Place,
+        number: usize,
+        object: &Map<String, Value>,
+    ) -> Result<Cite, CitationsError> {
         let alloc = self.alloc;
         let Some(id) = self.text_at(place, object, "id")? else {
             return Err(refusal(place.pointer(alloc)?, Wanted::Id));
@@ -296,6 +303,7 @@ impl Reader {
         self.warn_of_members(place, object)?;
         Ok(Cite {
             id,
+            place: number,
             locator: self.locator_of(place, object)?,
             prefix: self
                 .text_at(place, object, "prefix")?
@@ -306,6 +314,7 @@ impl Reader {
             suppresses_author: flag_at(object, "suppress-author"),
             is_author_only: flag_at(object, "author-only"),
             is_hidden: flag_at(object, "hidden"),
+            missing_before: Vec::new(alloc),
         })
     }
 

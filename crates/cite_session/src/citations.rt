@@ -7,6 +7,7 @@ use cite_call::texts::TextName;
 use cite_host::cites::Citation;
 use cite_json::listing::uncited;
 use cite_json::reading::ReadCitations;
+use cite_json::unknown::{KnownItems, with_missing};
 use std::alloc::{AllocError, Global};
 use std::collections::BTreeSet;
 
@@ -56,6 +57,28 @@ impl KeyedCitations {
         Ok(())
     }
 
+    /// The same citations as those of a draft: their cites of items that aren't there are missing
+    /// ones; `sorts` says whether the style sorts cites.
+    ///
+    /// # Errors
+    ///
+    /// Where memory is refused.
+    pub fn drafted(
+        &self,
+        alloc: Global,
+        library: &Library,
+        sorts: bool,
+    ) -> Result<KeyedCitations, AllocError> {
+        let mut keys = Vec::new(alloc);
+        for key in &self.keys {
+            keys.push(key.clone()?)?;
+        }
+        Ok(KeyedCitations {
+            citations: with_missing(alloc, &self.citations, library, sorts)?,
+            keys,
+        })
+    }
+
     /// Adds a citation of all other items, which isn't shown.
     ///
     /// # Errors
@@ -81,6 +104,7 @@ fn known_cites(
 ) -> Result<Citation, AllocError> {
     let Citation {
         cites,
+        missing_behind,
         note,
         is_alone,
         is_unsorted,
@@ -93,6 +117,7 @@ fn known_cites(
     }
     Ok(Citation {
         cites: known,
+        missing_behind,
         note,
         is_alone,
         is_unsorted,

@@ -3,7 +3,6 @@
 
 pub mod changes;
 mod citations;
-mod draft;
 mod ids;
 mod library;
 mod printing;

@@ -1,4 +1,5 @@
 //! The items of a session.
+use cite_json::unknown::KnownItems;
 use csl_references::reference::{Reference, References};
 use csl_vocabulary::item_type::ItemType;
 use std::alloc::{AllocError, Global};
@@ -20,16 +21,6 @@ impl Library {
             references: References::new(alloc),
             removed: BTreeSet::new(alloc),
         }
-    }
-
-    /// The items, and others that `has` doesn't know.
-    pub fn references(&self) -> &References {
-        &self.references
-    }
-
-    /// Whether there is an item with this id.
-    pub fn has(&self, id: &str) -> bool {
-        self.references.contains(id) && !self.removed.contains(id)
     }
 
     /// Adds items, whose ids these are. Each is new, or stands in place of the one with its id.
@@ -141,6 +132,16 @@ impl Library {
         for item in replaced {
             let _ = self.references.insert(item);
         }
+    }
+}
+
+impl KnownItems for Library {
+    fn has(&self, id: &str) -> bool {
+        self.references.contains(id) && !self.removed.contains(id)
+    }
+
+    fn references(&self) -> &References {
+        &self.references
     }
 }
 

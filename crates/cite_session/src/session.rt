@@ -1,6 +1,5 @@
 //! A document that is edited.
 use crate::citations::KeyedCitations;
-use crate::draft::Draft;
 use crate::ids::read_ids;
 use crate::library::{Library, ids_of};
 use crate::printing::print_changes;
@@ -69,14 +68,15 @@ impl Session {
 
     /// Puts the items of CSL-JSON, which is a list, or an object with a list at `items`. Each is
     /// new, or stands in place of the one with its id. One that was removed is put in the place
-    /// that it had.
+    /// that it had. In a draft, an item with a fault is left out, with a warning.
     ///
     /// # Errors
     ///
     /// `Fault` where the text is none; `OutOfMemory`.
     pub fn put_items(&mut self, alloc: Global, items: &[u8]) -> Result<(), CallError> {
         let mut reader = TextReader::new(alloc);
-        let items = reader.items(items)?.into_vec();
+        let is_draft = self.style.styling.options.is_draft;
+        let items = reader.items(items, is_draft)?.into_vec();
         let ids = ids_of(alloc, &items)?;
         self.library.put(alloc, items, &ids)?;
         self.forget(&ids);
@@ -117,8 +117,8 @@ impl Session {
     /// than last time. `bibliography` has the same, with `id` and `ids`, where the style has one.
     ///
     /// In a draft, a cite of an item that isn't there is its id in bold letters, with a question
-    /// mark. It follows the other cites of its citation, in parentheses; it has no number, and is
-    /// in no list.
+    /// mark. It stands before the cite that followed it, or behind the others where the style sorts
+    /// cites; it has no number, and is in no list.
     ///
     /// # Errors
     ///
@@ -180,19 +180,21 @@ impl Session {
             style: &self.style,
             library: &self.library,
         };
-        materials.written(alloc, &mut self.citations, &[], &mut self.kept)
+        materials.written(alloc, &mut self.citations, &mut self.kept)
     }
 
     /// The texts of a document that is a draft.
     fn written_draft(&mut self, alloc: Global) -> Result<WrittenTexts, CallError> {
-        let mut draft = Draft::of(alloc, &self.citations, &self.library)?;
+        let mut reader = TextReader::new(alloc);
+        reader.warn_of_unknown(&self.citations.citations, &self.library)?;
+        let sorts = !self.style.styling.style.citation.sort.is_empty();
+        let mut drafted = self.citations.drafted(alloc, &self.library, sorts)?;
         let materials = Materials {
             style: &self.style,
             library: &self.library,
         };
-        let missing = draft.missing.as_slice();
-        let texts = materials.written(alloc, &mut draft.citations, missing, &mut self.kept)?;
-        self.draft_warnings = draft.warnings;
+        let texts = materials.written(alloc, &mut drafted, &mut self.kept)?;
+        self.draft_warnings = reader.warnings;
         Ok(texts)
     }
 }

@@ -1,7 +1,7 @@
 //! The style of a session.
 use crate::texts::SessionTexts;
 use cite_call::error::CallError;
-use cite_call::options::{AnswerForm, CallOptions, OptionsOf, wrong_option};
+use cite_call::options::{AnswerForm, CallOptions, wrong_option};
 use cite_call::reader::TextReader;
 use cite_call::remark::Remark;
 use cite_call::styling::Styling;
@@ -29,12 +29,7 @@ impl SessionStyle {
     /// `LimitExceeded` where the style takes more than its limits; `OutOfMemory`.
     pub fn read(alloc: Global, texts: SessionTexts<'_>) -> Result<SessionStyle, CallError> {
         let mut reader = TextReader::new(alloc);
-        let styling = reader.styling(
-            texts.style,
-            texts.locales,
-            texts.options,
-            OptionsOf::Session,
-        )?;
+        let styling = reader.styling(texts.style, texts.locales, texts.options)?;
         let form = form_of(alloc, &styling.options)?;
         styling.check(alloc, texts.style)?;
         Ok(SessionStyle {

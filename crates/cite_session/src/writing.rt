@@ -1,12 +1,12 @@
 //! The document is written.
 use crate::citations::KeyedCitations;
-use crate::draft::add_missing;
 use crate::library::Library;
 use crate::style::SessionStyle;
 use crate::written::WrittenTexts;
 use cite_call::error::CallError;
 use cite_call::styling::CitedItems;
 use cite_host::kept::KeptTexts;
+use cite_json::unknown::KnownItems;
 use std::alloc::Global;
 
 /// In what a document is written.
@@ -17,8 +17,7 @@ pub(crate) struct Materials<'s> {
 }
 
 impl<'s> Materials<'s> {
-    /// The texts of citations, and of the items of the bibliography; `missing` has the ids that
-    /// each citation cites beside, and that aren't there.
+    /// The texts of citations, and of the items of the bibliography.
     ///
     /// # Errors
     ///
@@ -28,13 +27,12 @@ impl<'s> Materials<'s> {
         self,
         alloc: Global,
         citations: &mut KeyedCitations,
-        missing: &[Vec<String>],
         kept: &mut KeptTexts,
     ) -> Result<WrittenTexts, CallError> {
         if self.style.styling.options.lists_all {
             citations.push_uncited(alloc, self.library)?;
         }
-        let texts = self.written_all(alloc, citations, missing, kept);
+        let texts = self.written_all(alloc, citations, kept);
         citations.leave_out_uncited();
         texts
     }
@@ -44,7 +42,6 @@ impl<'s> Materials<'s> {
         self,
         alloc: Global,
         citations: &KeyedCitations,
-        missing: &[Vec<String>],
         kept: &mut KeptTexts,
     ) -> Result<WrittenTexts, CallError> {
         let styling = &self.style.styling;
@@ -54,8 +51,7 @@ impl<'s> Materials<'s> {
             citations: &citations.citations,
         };
         let text = self.style.text.as_slice();
-        let mut answer = styling.answer_with(alloc, text, &locale, document, kept)?;
-        add_missing(alloc, &mut answer.citations, missing)?;
+        let answer = styling.answer_with(alloc, text, &locale, document, kept)?;
         let form = self.style.form;
         let marks = locale.quote_marks();
         let texts = WrittenTexts::of_answer(alloc, form, &citations.keys, &answer, marks)?;

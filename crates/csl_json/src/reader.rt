@@ -102,6 +102,8 @@ pub(crate) struct Reader {
     pub alloc: Global,
     pub warnings: Vec<Warning>,
     pub number_texts: NumberTexts,
+    /// Whether an item with a fault is left out, with a warning.
+    pub leaves_out_faults: bool,
     /// What guesses at the keys of items, names and dates, and at types.
     pub item_keys: Guesser,
     pub name_keys: Guesser,
@@ -120,6 +122,7 @@ impl Reader {
             alloc,
             warnings: repeated_warnings(alloc, repeated_keys)?,
             number_texts,
+            leaves_out_faults: false,
             item_keys: Guesser::new(alloc, item_keys(alloc)?),
             name_keys: Guesser::new(alloc, Vec::from_slice(alloc, NAME_KEYS)?),
             date_keys: Guesser::new(alloc, Vec::from_slice(alloc, DATE_KEYS)?),
@@ -131,6 +134,20 @@ impl Reader {
     pub(crate) fn warn(&mut self, place: &Place, kind: WarningKind) -> Result<(), AllocError> {
         let pointer = place.pointer(self.alloc)?;
         self.warnings.push(Warning { pointer, kind })?;
+        Ok(())
+    }
+
+    /// Warns of an item that is left out for a fault.
+    pub(crate) fn warn_of_fault(&mut self, fault: Fault) -> Result<(), AllocError> {
+        let Fault {
+            pointer,
+            found,
+            wanted,
+        } = fault;
+        self.warnings.push(Warning {
+            pointer,
+            kind: WarningKind::LeftOut { found, wanted },
+        })?;
         Ok(())
     }
 

@@ -46,10 +46,17 @@ impl Reader {
     {
         let mut references = References::new(self.alloc);
         for index in 0..items.len() {
-            if let Some(reference) = self.item_at(place, items, index)? {
-                if references.insert(reference)?.is_some() {
-                    self.warn(&place.item(index), WarningKind::RepeatedId)?;
+            match self.item_at(place, items, index) {
+                Ok(Some(reference)) => {
+                    if references.insert(reference)?.is_some() {
+                        self.warn(&place.item(index), WarningKind::RepeatedId)?;
+                    }
                 }
+                Ok(None) => {}
+                Err(ReferencesError::Fault(fault)) if self.leaves_out_faults => {
+                    self.warn_of_fault(Box::into_inner(fault))?;
+                }
+                Err(error) => return Err(error),
             }
         }
         Ok(references)
@@ -105,18 +112,14 @@ impl Reader {
 pub fn references_of(alloc: Global, value: &Value) -> Result<ReadReferences, ReferencesError>
     ensures { IfErr result (λ e. IsErrorOf e (view value.now)) }
 {
-    references_with(alloc, value, Unkept::unknown(alloc))
+    references_with(Reader::new(alloc, Unkept::unknown(alloc))?, value)
 }
 
-/// The references of a JSON value that doesn't keep this of its text.
-fn references_with(
-    alloc: Global,
-    value: &Value,
-    unkept: Unkept,
-) -> Result<ReadReferences, ReferencesError>
+/// The references of a JSON value that this reader reads.
+fn references_with(reader: Reader, value: &Value) -> Result<ReadReferences, ReferencesError>
     ensures { IfErr result (λ e. IsErrorOf e (view value.now)) }
 {
-    let mut reader = Reader::new(alloc, unkept)?;
+    let mut reader = reader;
     match reader.whole(&Place::Whole, value) {
         Ok(references) => Ok(ReadReferences {
             references,
@@ -160,5 +163,20 @@ pub fn read_references(alloc: Global, bytes: &[u8]) -> Result<ReadReferences, Re
 {
     let unkept = Unkept::of_bytes(alloc, bytes)?;
     let value = value_of(alloc, bytes)?;
-    references_with(alloc, &value, unkept)
+    references_with(Reader::new(alloc, unkept)?, &value)
+}
+
+/// The references of CSL-JSON, as `read_references` gives them; but an item with a fault is left
+/// out, and a warning has the fault.
+///
+/// # Errors
+/// Where the bytes are no UTF-8, no JSON, or no list of items; a lack of memory.
+pub fn read_sound_references(alloc: Global, bytes: &[u8]) -> Result<ReadReferences, ReferencesError>
+    ensures { IfErr result (λ e. IsErrorIn e bytes.now) }
+{
+    let unkept = Unkept::of_bytes(alloc, bytes)?;
+    let value = value_of(alloc, bytes)?;
+    let mut reader = Reader::new(alloc, unkept)?;
+    reader.leaves_out_faults = true;
+    references_with(reader, &value)
 }

@@ -1,5 +1,5 @@
 //! What is read of CSL-JSON otherwise than it stands there.
-use crate::fault::Pointer;
+use crate::fault::{Found, Pointer, Wanted};
 use std::fmt;
 
 /// What was done with a part of the JSON.
@@ -34,6 +34,8 @@ pub enum WarningKind {
     EmptyDate,
     /// The date is not kept as a whole: what no date of CSL has was left out.
     CutDate,
+    /// The item has a fault, so it was left out.
+    LeftOut { found: Found, wanted: Wanted },
 }
 
 /// Something that is read otherwise than it stands in the JSON.
@@ -86,6 +88,9 @@ impl fmt::Display for WarningKind {
             }
             WarningKind::EmptyDate => f.write_str("an empty date, left out"),
             WarningKind::CutDate => f.write_str("not all of the date could be kept"),
+            WarningKind::LeftOut { found, wanted } => {
+                write!(f, "found {found}, wanted {wanted}; the item was left out")
+            }
         }
     }
 }

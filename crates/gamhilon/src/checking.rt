@@ -185,7 +185,7 @@ fn check_references(
     path: &str,
     bytes: &[u8],
 ) -> Result<(), CommandError> {
-    let read = references_in(rt.alloc(), path, bytes)?;
+    let read = references_in(rt.alloc(), path, bytes, false)?;
     show_item_warnings(rt, path, bytes, &read.warnings)?;
     let path = OneLine(path);
     match read.references.len() {

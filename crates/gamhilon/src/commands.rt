@@ -8,7 +8,7 @@ use crate::printing::{Printing, print_bibliography, print_both, print_citations,
 use crate::references::references_of;
 use crate::reports::{limit_exceeded, refused, show_warning};
 use crate::styles::{FoundStyle, style_of};
-use crate::unknown_ids::check_ids;
+use crate::unknown_ids::{check_ids, warn_of_unknown};
 use cite_command::arguments::{Options, OutputFormat};
 use cite_host::answer::{Answer, Document};
 use cite_host::cites::Citation;
@@ -17,6 +17,7 @@ use cite_json::fault::CitationsError;
 use cite_json::listing::{citation_of_all, uncited};
 use cite_json::notes::number_notes;
 use cite_json::reading::{ReadCitations, read_citations};
+use cite_json::unknown::with_missing;
 use cite_limits::budget::USUAL_PART;
 use cite_limits::cost::Cost;
 use cite_locale::chain::LocaleChain;
@@ -24,6 +25,7 @@ use cite_walk::abbreviations::Abbreviations;
 use csl_references::reference::References;
 use std::alloc::{AllocError, Global};
 use std::rt::Files;
+use style_file::style::CslStyle;
 
 /// What of an answer is printed.
 #[derive(Clone, Copy, PartialEq, Eq)]
@@ -37,8 +39,21 @@ enum Printed {
 #[derive(Drop)]
 struct Cited {
     citations: Vec<Citation>,
+    /// The same citations as those of a draft, where the document is one: their cites of items that
+    /// aren't there are missing ones.
+    drafted: Option<Vec<Citation>>,
     /// How many of them are the file's. One more, which isn't shown, cites what they don't.
     count: usize,
+}
+
+impl Cited {
+    /// The citations as they are written.
+    fn written(&self) -> &[Citation] {
+        match &self.drafted {
+            Some(drafted) => drafted,
+            None => &self.citations,
+        }
+    }
 }
 
 /// What the files of a command have.
@@ -87,7 +102,7 @@ fn print_answer(
     let found = style_of(rt, options)?;
     let abbreviations = told_abbreviations(rt, options)?;
     let references = references_of(rt, options)?;
-    let cited = citations_of(rt, options, &references)?;
+    let cited = citations_of(rt, options, &found.style, &references)?;
     let asked = AskedDocument {
         found: &found,
         references: &references,
@@ -101,24 +116,40 @@ fn print_answer(
 fn citations_of(
     rt: &(impl Files + Input + Eprint + AllocGlobal),
     options: &Options,
+    style: &CslStyle,
     references: &References,
 ) -> Result<Cited, CommandError> {
     let Some(path) = options.citations.as_deref() else {
         let citations = citation_of_all(rt.alloc(), references)?;
         return Ok(Cited {
             citations,
+            drafted: None,
             count: 0,
         });
     };
     let mut citations = shown_citations(rt, path)?;
     let count = citations.len();
-    check_ids(rt.alloc(), path, &citations, references)?;
+    if options.is_draft {
+        warn_of_unknown(rt, path, &citations, references)?;
+    } else {
+        check_ids(rt.alloc(), path, &citations, references)?;
+    }
     number_notes(rt.alloc(), &mut citations)?;
     if options.lists_uncited {
         let uncited = uncited(rt.alloc(), references, &citations)?;
         citations.push(uncited)?;
     }
-    Ok(Cited { citations, count })
+    let drafted = if options.is_draft {
+        let sorts = !style.citation.sort.is_empty();
+        Some(with_missing(rt.alloc(), &citations, references, sorts)?)
+    } else {
+        None
+    };
+    Ok(Cited {
+        citations,
+        drafted,
+        count,
+    })
 }
 
 /// The citations in a file. What is odd in them is printed.
@@ -207,7 +238,7 @@ fn answer_of(
         locale,
         language,
         references: asked.references,
-        citations: &asked.cited.citations,
+        citations: asked.cited.written(),
         abbreviations: asked.abbreviations,
         lists_items,
         part: part_of(options),

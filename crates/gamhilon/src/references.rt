@@ -6,7 +6,7 @@ use crate::json_causes::{behind_mark, json_refused};
 use crate::reports::{refused, show_warning};
 use cite_command::arguments::Options;
 use csl_json::fault::ReferencesError;
-use csl_json::reading::{ReadReferences, read_references};
+use csl_json::reading::{ReadReferences, read_references, read_sound_references};
 use csl_references::reference::References;
 use std::alloc::Global;
 use std::rt::Files;
@@ -28,14 +28,15 @@ pub(crate) fn references_of(
     let mut references = References::new(rt.alloc());
     for path in &options.references {
         let bytes = bytes_of(rt, path.as_str())?;
-        let read = references_in(rt.alloc(), path.as_str(), &bytes)?;
+        let read = references_in(rt.alloc(), path.as_str(), &bytes, options.is_draft)?;
         show_item_warnings(rt, path.as_str(), &bytes, &read.warnings)?;
         add_all(rt, path.as_str(), &mut references, read.references)?;
     }
     Ok(references)
 }
 
-/// The references in a file of these bytes, behind a byte order mark or without one.
+/// The references in a file of these bytes, behind a byte order mark or without one. Of a draft,
+/// an item with a fault is left out, with a warning.
 ///
 /// # Errors
 ///
@@ -44,9 +45,15 @@ pub(crate) fn references_in(
     alloc: Global,
     path: &str,
     bytes: &[u8],
+    is_draft: bool,
 ) -> Result<ReadReferences, CommandError> {
     let bytes = behind_mark(bytes);
-    match read_references(alloc, bytes) {
+    let read = if is_draft {
+        read_sound_references(alloc, bytes)
+    } else {
+        read_references(alloc, bytes)
+    };
+    match read {
         Ok(read) => Ok(read),
         Err(ReferencesError::OutOfMemory) => Err(CommandError::OutOfMemory),
         Err(ReferencesError::Fault(fault)) => Err(item_refused(alloc, path, bytes, &fault)?),

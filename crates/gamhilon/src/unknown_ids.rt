@@ -1,12 +1,10 @@
 //! Cites of items that aren't there.
 use crate::error::CommandError;
+use crate::reports::show_warning;
 use cite_host::cites::Citation;
+use cite_json::unknown::{UnknownItem, unknown_items};
 use csl_references::reference::References;
 use std::alloc::{AllocError, Global};
-use style_faults::nearest::Nearest;
-
-/// How many ids are compared with others at most, for all guesses together.
-const MOST_COMPARED: usize = 1_000_000;
 
 /// Refuses citations with a cite of an item that isn't among these.
 ///
@@ -19,20 +17,9 @@ pub(crate) fn check_ids(
     citations: &[Citation],
     references: &References,
 ) -> Result<(), CommandError> {
-    let mut guesses = MOST_COMPARED / references.len().max(1);
     let mut lines = Vec::new(alloc);
-    for (number, citation) in citations.iter().enumerate() {
-        for (place, cite) in citation.cites.iter().enumerate() {
-            let id = cite.id.as_str();
-            if !references.contains(id) {
-                let guess = guess_of(alloc, references, id, guesses)?;
-                guesses = guesses.saturating_sub(1);
-                let guess = guess.as_str();
-                lines.push(format!(in alloc;
-                    "/{number}/{place}: there is no item `{id}`{guess}"
-                )?)?;
-            }
-        }
+    for item in unknown_items(alloc, citations, references)? {
+        lines.push(line_of(alloc, &item)?)?;
     }
     if lines.is_empty() {
         return Ok(());
@@ -43,35 +30,27 @@ pub(crate) fn check_ids(
     })
 }
 
-/// A guess at which item was meant, in words; empty where there is none.
-fn guess_of(
-    alloc: Global,
+/// Warns of each cite of an item that isn't among these.
+///
+/// # Errors
+///
+/// Where memory is refused.
+pub(crate) fn warn_of_unknown(
+    rt: &(impl Eprint + AllocGlobal),
+    path: &str,
+    citations: &[Citation],
     references: &References,
-    id: &str,
-    guesses: usize,
-) -> Result<String, AllocError> {
-    if guesses == 0 {
-        return Ok(String::new(alloc));
+) -> Result<(), AllocError> {
+    for item in unknown_items(rt.alloc(), citations, references)? {
+        let line = line_of(rt.alloc(), &item)?;
+        show_warning(rt, path, &line)?;
     }
-    match nearest_id(alloc, references, id)? {
-        Some(near) => format!(in alloc; "; is it `{near}`?"),
-        None => Ok(String::new(alloc)),
-    }
+    Ok(())
 }
 
-/// The id that differs in case alone, or else the nearest.
-fn nearest_id<'r>(
-    alloc: Global,
-    references: &'r References,
-    id: &str,
-) -> Result<Option<&'r str>, AllocError> {
-    let mut nearest = Nearest::new(alloc, id);
-    for reference in references.as_slice() {
-        let other = reference.id.as_str();
-        if other.eq_ignore_ascii_case(id) {
-            return Ok(Some(other));
-        }
-        nearest.consider(other)?;
-    }
-    Ok(nearest.word())
+/// What is wrong with a cite, with its place.
+fn line_of(alloc: Global, item: &UnknownItem) -> Result<String, AllocError> {
+    let citation = item.citation;
+    let cite = item.cite;
+    format!(in alloc; "/{citation}/{cite}: {item}")
 }

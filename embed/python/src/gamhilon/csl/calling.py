@@ -54,6 +54,7 @@ class Document:
     limits: Optional[Mapping[str, int]] = None
     reader: Optional[AnswerReader] = None
     texts: Optional[EntryTexts] = None
+    is_draft: bool = False
 
     def answer(self, warns: bool = True) -> Answer:
         """The answer, with what is odd unless that isn't asked for. Raises TextRefused where a part
@@ -77,7 +78,14 @@ class Document:
             options['abbreviations'] = self.abbreviations.value
         if self.limits:
             options['limits'] = dict(self.limits)
+        if self.is_draft:
+            options['draft'] = True
         return options
+
+    def is_warned(self, remark: TextWarning) -> bool:
+        """Whether a remark of the library is of an entry that isn't there: these are warned of
+        beside all entries, of which the library gets those that are cited."""
+        return self.is_draft and remark.file == 'citations' and steps_of(remark)[2:] == ['id']
 
     def warned(self, remark: TextWarning) -> Warned:
         """A remark of the library, with its place in the document."""

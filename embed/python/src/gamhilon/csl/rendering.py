@@ -15,7 +15,7 @@ from .abbreviations import Abbreviations, AbbreviationsLike, abbreviations_of
 from .calling import Document, EntryTexts, steps_of
 from .cites import Citation, CitationLike, CitationReader, Cite, ids_of
 from .entries import Entry, EntryReader, stand_in, warned_of_stand_in
-from .errors import CitationRefused, StyleRefused
+from .errors import CitationRefused, StyleRefused, place
 from .handed_in import ReferencesLike, StyleLike, read_of, style_of
 from .locales import LocaleFile, Locales, files_for, with_dialect
 from .results import Rendered
@@ -37,7 +37,7 @@ def render(style: StyleLike, references: Optional[ReferencesLike] = None,
            nocite: Union[str, Iterable[str]] = (), locale: Optional[str] = None,
            locales: Optional[Locales] = None, abbreviations: Optional[AbbreviationsLike] = None,
            most_steps: Optional[int] = None, most_bytes: Optional[int] = None,
-           entries: Optional[ReferencesLike] = None) -> Rendered:
+           draft: bool = False, entries: Optional[ReferencesLike] = None) -> Rendered:
     """Citations and the bibliography in a style.
 
         >>> works = [{'id': 'doe99', 'type': 'book', 'title': 'On Order',
@@ -59,13 +59,14 @@ def render(style: StyleLike, references: Optional[ReferencesLike] = None,
     titles of journals: the path of a file in the form of pandoc and Zotero, or what its JSON has.
     `most_steps` and `most_bytes` are what the style may take for each cite and each entry, in place
     of what no published style comes near (docs/STYLE_FILES.md).
-    `entries` is the older name of `references`.
+    In a `draft`, a cite of an entry that isn't there is its id in bold letters, with a question
+    mark, as pandoc writes it, and a warning. `entries` is the older name of `references`.
 
     What is odd, in the file of the references too, is in the `warnings` of what is rendered. An
     entry that can't be written as it is loses the field that is wrong, or its id stands for it.
     Raises StyleMissing where there is no such style, StyleRefused where a style or a locale file
-    isn't one, CitationRefused where a citation isn't one or cites an entry that isn't there,
-    EntriesRefused where the references are no list, AbbreviationsRefused where abbreviations aren't
+    isn't one, CitationRefused where a citation isn't one or cites an entry that isn't there and
+    the document is no draft, EntriesRefused where the references are no list, AbbreviationsRefused where abbreviations aren't
     of their form, StyleLimitExceeded where the style takes more than it may, LimitsRefused where a
     limit is none (each of these is a ValueError); NumberOverflow or OutOfMemory, and
     LibraryMissing; what `references.load` raises of a path. All of these but an OSError of a file
@@ -76,7 +77,7 @@ def render(style: StyleLike, references: Optional[ReferencesLike] = None,
     found = load(style_of(style))
     cites = reader.citations(() if citations is None else citations)
     renderer = Renderer(found, given, locale, locales, abbreviations_of(abbreviations),
-                        style_limits(most_steps, most_bytes))
+                        style_limits(most_steps, most_bytes), is_draft=draft)
     return renderer.render(cites, '*' if citations is None else nocite, reader.warnings)
 
 
@@ -87,12 +88,13 @@ class Renderer:
 
     def __init__(self, style: Style, references: ReferencesLike, locale: Optional[str] = None,
                  locales: Optional[Locales] = None, abbreviations: Optional[Abbreviations] = None,
-                 limits: Optional[Mapping[str, int]] = None, is_kept: bool = False) -> None:
+                 limits: Optional[Mapping[str, int]] = None, is_kept: bool = False,
+                 is_draft: bool = False) -> None:
         reader = EntryReader()
         items, odd = read_of(references)
         self._style, self._locales, self._abbreviations = style, locales, abbreviations
         self._entries, self._warnings = reader.entries(items), [*odd, *reader.warnings]
-        self._limits = limits
+        self._limits, self._is_draft = limits, is_draft
         self._language = with_dialect(locale or style.language or LANGUAGE)
         self._files: Optional[List[LocaleFile]] = None
         self._texts = EntryTexts()
@@ -103,7 +105,10 @@ class Renderer:
         """What `render` gives of citations that are of their form; `warnings` are those of reading
         them."""
         document = self._document(citations, nocite, self._answers)
-        return _rendered(document, [*self._warnings, *warnings], len(citations))
+        warned = [*self._warnings, *warnings]
+        if self._is_draft:
+            warned += [_warned_of_unknown(*cite) for cite in _unknown(self._entries, citations)]
+        return _rendered(document, warned, len(citations))
 
     def citations(self, citations: Sequence[Citation]) -> List[WrittenCitation]:
         """What is written of citations alone, without what is odd."""
@@ -117,9 +122,12 @@ class Renderer:
         asked = [*citations, hidden] if listed else citations
         if self._files is None:
             self._files = files_for(self._language, self._locales)
-        entries = list(_cited(self._entries, asked).values())
+        if not self._is_draft:
+            _refuse_unknown(self._entries, asked)
+        cited = ids_of(asked)
+        entries = [entry for key, entry in self._entries.items() if key in cited]
         return Document(self._style, self._files, entries, asked, self._language,
-                        self._abbreviations, self._limits, reader, self._texts)
+                        self._abbreviations, self._limits, reader, self._texts, self._is_draft)
 
 
 def _references(references: Optional[ReferencesLike],
@@ -218,24 +226,33 @@ def _refuse(document: Document) -> List[Warned]:
     return [document.warned(warning) for warning in answer.warnings]
 
 
-def _cited(entries: Dict[str, Entry], citations: Sequence[Citation]) -> Dict[str, Entry]:
-    """The entries that are cited. Raises CitationRefused where one isn't there."""
-    cited = ids_of(citations)
-    if cited <= entries.keys():
-        return {key: entry for key, entry in entries.items() if key in cited}
-    for number, citation in enumerate(citations):
-        for index, cite in enumerate(citation.cites):
-            if cite.id not in entries:
-                fault = f'there is no entry {cite.id!r}{meant(cite.id, entries)}'
-                raise CitationRefused(number, index, 'id', fault)
-    return {}
+def _unknown(entries: Mapping[str, Entry],
+             citations: Sequence[Citation]) -> List[Tuple[int, int, str]]:
+    """The cites of entries that aren't there: the indexes of their citations, their own ones there,
+    and what is wrong."""
+    if ids_of(citations) <= entries.keys():
+        return []
+    return [(number, index, f'there is no entry {cite.id!r}{meant(cite.id, entries)}')
+            for number, citation in enumerate(citations)
+            for index, cite in enumerate(citation.cites) if cite.id not in entries]
+
+
+def _refuse_unknown(entries: Mapping[str, Entry], citations: Sequence[Citation]) -> None:
+    """Raises CitationRefused where an entry is cited that isn't there."""
+    for number, index, fault in _unknown(entries, citations):
+        raise CitationRefused(number, index, 'id', fault)
+
+
+def _warned_of_unknown(number: int, index: int, fault: str) -> Warned:
+    return Warned(place(number, index, 'id'), fault, citation=number)
 
 
 def _rendered(document: Document, warnings: List[Warned], shown: int) -> Rendered:
     """The answer to a document, of whose citations the first ones are shown. Fields of entries that
     are wrong are left out."""
     document, answer = _answered(document, warnings)
-    warnings += [document.warned(warning) for warning in answer.warnings]
+    warnings += [document.warned(warning) for warning in answer.warnings
+                 if not document.is_warned(warning)]
     answer = _with_stand_ins(document, answer, warnings)
     return Rendered(replace(answer, citations=answer.citations[:shown], warnings=[]), warnings,
                     document.citations[:shown])
