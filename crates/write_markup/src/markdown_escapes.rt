@@ -2,7 +2,7 @@
 use std::alloc::{AllocError, Global};
 
 /// A text after this letter, in a paragraph, with nothing in it that Markdown reads as anything
-/// but its letters.
+/// but its letters. An ampersand is an entity, since not every Markdown reads `\&` as one.
 ///
 /// # Errors
 ///
@@ -15,6 +15,10 @@ pub(crate) fn escaped(
     let letters: Vec<char> = text.chars().collect(alloc)?;
     let mut escaped = String::new(alloc);
     for (place, c) in letters.iter().enumerate() {
+        if *c == '&' {
+            escaped.push_str("&amp;")?;
+            continue;
+        }
         let is_repeated = place == 0 && is_dash_or_dot(*c) && before == Some(*c);
         if is_repeated || is_special(*c) || is_special_there(&letters, place, *c) {
             escaped.push('\\')?;
@@ -34,7 +38,7 @@ fn is_special(c: char) -> bool {
     matches!(
         c,
         '\\' | '`' | '*' | '_' | '{' | '}' | '[' | ']' | '<' | '>' | '#' | '|'
-    ) || matches!(c, '~' | '^' | '$' | '@' | '&' | '!' | '"' | '\'')
+    ) || matches!(c, '~' | '^' | '$' | '@' | '!' | '"' | '\'')
 }
 
 /// Whether Markdown may read a letter as its own at its place: in dashes, ellipses, addresses and

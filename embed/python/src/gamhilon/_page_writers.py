@@ -14,7 +14,6 @@ from .markdown_writer import begun, bibliography_to_markdown, inline_markdown
 _SPECIAL = re.compile(r'[\\`*_{}\[\]+!~^=|:$@]|(?<!&)#')
 _MARK = re.compile(r'(\(?(?:\d+|[A-Za-z]))([.)])(?=\s)|([-+*])(?=\s)')
 _TAG = re.compile(r'(<[^<>]*>)')
-_AMPERSAND = re.compile(r'\\\\|\\&')
 
 
 class PageWriter:
@@ -22,7 +21,7 @@ class PageWriter:
 
     def inline(self, pieces: Sequence[Piece]) -> str:
         """What stands in a line."""
-        return _with_entities(inline_markdown(pieces))
+        return inline_markdown(pieces)
 
     def begun(self, text: str) -> str:
         """What begins a block, so that it is no list."""
@@ -30,14 +29,8 @@ class PageWriter:
 
     def reference_list(self, bibliography: Optional[Bibliography]) -> str:
         """The reference list, between blank lines."""
-        items = _with_entities(bibliography_to_markdown(bibliography))
+        items = bibliography_to_markdown(bibliography)
         return f'<div id="refs" class="references">\n\n{items}\n</div>\n' if items else ''
-
-
-def _with_entities(text: str) -> str:
-    """Markdown with `&amp;` in place of an escaped ampersand, which kramdown and Python-Markdown
-    don't read as one."""
-    return _AMPERSAND.sub(lambda match: match.group().replace(r'\&', '&amp;'), text)
 
 
 class HtmlInMarkdown(PageWriter):

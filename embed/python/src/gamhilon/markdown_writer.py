@@ -89,7 +89,13 @@ def bibliography_to_markdown(bibliography: Optional[Bibliography],
 def escaped(text: str) -> str:
     """A text with nothing in it that Markdown reads as anything but its letters, inside a
     paragraph."""
-    return _SPECIAL.sub(lambda match: '\\' + match.group(), single_spaced(text))
+    return _SPECIAL.sub(lambda match: _escape(match.group()), single_spaced(text))
+
+
+def _escape(mark: str) -> str:
+    """A mark of Markdown as a letter. An ampersand is an entity, since not every Markdown reads
+    `\\&` as one."""
+    return '&amp;' if mark == '&' else '\\' + mark
 
 
 def begun(text: str) -> str:
