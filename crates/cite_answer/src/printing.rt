@@ -1,9 +1,10 @@
 //! The text of an answer's JSON.
-use crate::rendered::rendered_of;
-use cite_host::answer::Answer;
+use crate::rendered::{note_of, rendered_citation, rendered_item, rendered_of};
+use cite_host::answer::{Answer, ListedItem};
 use cite_host::cites::Citation;
+use cite_pieces::pieces::Pieces;
 use csl_texts::quotes::QuoteMarks;
-use json_answer::printing::print_json;
+use json_answer::printing;
 use std::alloc::{AllocError, Global};
 use style_file::style::CslStyle;
 
@@ -22,5 +23,37 @@ pub fn print_answer(
     marks: QuoteMarks<'_>,
 ) -> Result<String, AllocError> {
     let rendered = rendered_of(alloc, style, citations, answer, marks)?;
-    print_json(alloc, &rendered)
+    printing::print_json(alloc, &rendered)
+}
+
+/// A citation as it stands in the JSON of `print_answer`: the one at this place among those of the
+/// document.
+///
+/// # Errors
+///
+/// Where memory is refused.
+pub fn print_citation(
+    alloc: Global,
+    style: &CslStyle,
+    citations: &[Citation],
+    place: usize,
+    written: &Pieces,
+    marks: QuoteMarks<'_>,
+) -> Result<String, AllocError> {
+    let note_number = note_of(style, citations, place);
+    let citation = rendered_citation(alloc, note_number, written, marks)?;
+    printing::print_citation(alloc, &citation)
+}
+
+/// An item as it stands in the JSON of `print_answer`.
+///
+/// # Errors
+///
+/// Where memory is refused.
+pub fn print_item(
+    alloc: Global,
+    item: &ListedItem,
+    marks: QuoteMarks<'_>,
+) -> Result<String, AllocError> {
+    printing::print_item(alloc, &rendered_item(alloc, item, marks)?)
 }

@@ -28,10 +28,8 @@ pub(crate) fn rendered_of(
 ) -> Result<Rendered, AllocError> {
     let mut rendered = Vec::new(alloc);
     for (place, citation) in answer.citations.iter().enumerate() {
-        rendered.push(RenderedCitation {
-            note_number: note_of(style, citations, place),
-            citation: shown_tree(alloc, citation, marks)?,
-        })?;
+        let note_number = note_of(style, citations, place);
+        rendered.push(rendered_citation(alloc, note_number, citation, marks)?)?;
     }
     let bibliography = match (&answer.bibliography, &style.bibliography) {
         (Some(items), Some(section)) => {
@@ -46,8 +44,25 @@ pub(crate) fn rendered_of(
     })
 }
 
+/// A citation with its tree, in the note of this number.
+///
+/// # Errors
+///
+/// Where memory is refused.
+pub(crate) fn rendered_citation(
+    alloc: Global,
+    note_number: Option<usize>,
+    citation: &Pieces,
+    marks: QuoteMarks<'_>,
+) -> Result<RenderedCitation, AllocError> {
+    Ok(RenderedCitation {
+        note_number,
+        citation: shown_tree(alloc, citation, marks)?,
+    })
+}
+
 /// The number of the note of the citation at this place, in a style of notes.
-fn note_of(style: &CslStyle, citations: &[Citation], place: usize) -> Option<usize> {
+pub(crate) fn note_of(style: &CslStyle, citations: &[Citation], place: usize) -> Option<usize> {
     if style.class != StyleClass::Note {
         return None;
     }
@@ -93,17 +108,30 @@ fn listed_items(
 ) -> Result<Vec<BibliographyItem>, AllocError> {
     let mut listed = Vec::new(alloc);
     for item in items {
-        let first_field = match &item.first_field {
-            Some(field) => Some(shown_node(alloc, field, marks)?),
-            None => None,
-        };
-        listed.push(BibliographyItem {
-            key: Text::new(item.id.clone()?),
-            first_field,
-            content: shown_tree(alloc, &item.content, marks)?,
-        })?;
+        listed.push(rendered_item(alloc, item, marks)?)?;
     }
     Ok(listed)
+}
+
+/// An item with its trees.
+///
+/// # Errors
+///
+/// Where memory is refused.
+pub(crate) fn rendered_item(
+    alloc: Global,
+    item: &ListedItem,
+    marks: QuoteMarks<'_>,
+) -> Result<BibliographyItem, AllocError> {
+    let first_field = match &item.first_field {
+        Some(field) => Some(shown_node(alloc, field, marks)?),
+        None => None,
+    };
+    Ok(BibliographyItem {
+        key: Text::new(item.id.clone()?),
+        first_field,
+        content: shown_tree(alloc, &item.content, marks)?,
+    })
 }
 
 /// A bibliography of these items, with what the style says of their lines.

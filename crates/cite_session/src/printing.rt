@@ -1,10 +1,13 @@
 //! The JSON of what changed.
 use crate::changes::{KeyedTexts, changed, gone, has_same_keys};
+use crate::style::SessionStyle;
 use crate::written::WrittenTexts;
+use cite_call::options::AnswerForm;
 use csl_base::text::Text;
 use ordered_map::map::OrderedMap;
-use serde_json::{Map, Value, put};
+use serde_json::Value;
 use std::alloc::{AllocError, Global};
+use style_file::sections::{BibliographyOptions, SecondFieldAlign};
 
 /// What a list of texts has in the JSON.
 #[derive(Clone, Copy)]
@@ -13,16 +16,20 @@ struct ListNames {
     key: &'static str,
     /// The name of the list of all keys.
     keys: &'static str,
+    /// The name of what is JSON itself, and no text.
+    whole: &'static str,
 }
 
 const OF_CITATIONS: ListNames = ListNames {
     key: "key",
     keys: "keys",
+    whole: "citation",
 };
 
 const OF_BIBLIOGRAPHY: ListNames = ListNames {
     key: "id",
     keys: "ids",
+    whole: "item",
 };
 
 /// A JSON object with what changed since an answer; with everything where there was none.
@@ -32,6 +39,7 @@ const OF_BIBLIOGRAPHY: ListNames = ListNames {
 /// Where memory is refused.
 pub(crate) fn print_changes(
     alloc: Global,
+    style: &SessionStyle,
     old: Option<&WrittenTexts>,
     new: &WrittenTexts,
 ) -> Result<String, AllocError> {
@@ -39,67 +47,129 @@ pub(crate) fn print_changes(
         Some(old) => (Some(&old.citations), old.bibliography.as_ref()),
         None => (None, None),
     };
-    let mut members = Map::new(alloc);
-    let citations = changes_of(alloc, OF_CITATIONS, old_citations, &new.citations)?;
-    put(&mut members, alloc, "citations", citations)?;
+    let mut printer = Printer {
+        alloc,
+        is_json: style.form == AnswerForm::Json,
+        out: String::from_str(alloc, "{")?,
+    };
     if let Some(items) = &new.bibliography {
-        let bibliography = changes_of(alloc, OF_BIBLIOGRAPHY, old_items, items)?;
-        put(&mut members, alloc, "bibliography", bibliography)?;
+        printer.push_str("\"bibliography\":{")?;
+        printer.push_changes(OF_BIBLIOGRAPHY, old_items, items)?;
+        printer.push_layout(style)?;
+        printer.push_str("},")?;
     }
-    Value::Object(members).to_string(alloc)
+    printer.push_str("\"citations\":{")?;
+    printer.push_changes(OF_CITATIONS, old_citations, &new.citations)?;
+    printer.push_str("}}")?;
+    Ok(printer.out)
 }
 
-/// What changed in a list of texts; all of it where there was none.
-fn changes_of(
+/// Prints what changed.
+struct Printer {
     alloc: Global,
-    names: ListNames,
-    old: Option<&KeyedTexts>,
-    new: &KeyedTexts,
-) -> Result<Value, AllocError> {
-    let mut members = Map::new(alloc);
-    let nothing = OrderedMap::new(alloc);
-    let before = old.unwrap_or(&nothing);
-    let texts = changed_list(alloc, names.key, before, new)?;
-    put(&mut members, alloc, "changed", texts)?;
-    put(&mut members, alloc, "gone", gone_list(alloc, before, new)?)?;
-    if old.is_none() || !has_same_keys(before, new) {
-        put(&mut members, alloc, names.keys, key_list(alloc, new)?)?;
-    }
-    Ok(Value::Object(members))
+    /// Whether the texts are JSON themselves.
+    is_json: bool,
+    out: String,
 }
 
-fn changed_list(
-    alloc: Global,
-    name: &str,
-    old: &KeyedTexts,
-    new: &KeyedTexts,
-) -> Result<Value, AllocError> {
-    let mut values = Vec::new(alloc);
-    for (key, text) in changed(alloc, old, new)? {
-        let mut members = Map::new(alloc);
-        put(&mut members, alloc, name, text_value(alloc, key)?)?;
-        put(&mut members, alloc, "text", text_value(alloc, text)?)?;
-        values.push(Value::Object(members))?;
+impl Printer {
+    fn push_str(&mut self, text: &str) -> Result<(), AllocError> {
+        self.out.push_str(text)
     }
-    Ok(Value::Array(values))
+
+    /// Adds what changed in a list of texts; all of it where there was none.
+    fn push_changes(
+        &mut self,
+        names: ListNames,
+        old: Option<&KeyedTexts>,
+        new: &KeyedTexts,
+    ) -> Result<(), AllocError> {
+        let nothing = OrderedMap::new(self.alloc);
+        let before = old.unwrap_or(&nothing);
+        self.push_str("\"changed\":[")?;
+        for (place, entry) in changed(self.alloc, before, new)?.iter().enumerate() {
+            self.push_comma(place)?;
+            self.push_entry(names, *entry)?;
+        }
+        self.push_str("],\"gone\":[")?;
+        for (place, key) in gone(self.alloc, before, new)?.iter().enumerate() {
+            self.push_comma(place)?;
+            self.push_text(*key)?;
+        }
+        self.push_str("]")?;
+        if old.is_none() || !has_same_keys(before, new) {
+            self.push_keys(names, new)?;
+        }
+        Ok(())
+    }
+
+    /// Adds the list of all keys.
+    fn push_keys(&mut self, names: ListNames, texts: &KeyedTexts) -> Result<(), AllocError> {
+        self.push_str(",\"")?;
+        self.push_str(names.keys)?;
+        self.push_str("\":[")?;
+        for (place, (key, _)) in texts.as_slice().iter().enumerate() {
+            self.push_comma(place)?;
+            self.push_text(key)?;
+        }
+        self.push_str("]")
+    }
+
+    /// Adds a text with its key.
+    fn push_entry(&mut self, names: ListNames, entry: &(Text, Text)) -> Result<(), AllocError> {
+        self.push_str("{\"")?;
+        self.push_str(names.key)?;
+        self.push_str("\":")?;
+        self.push_text(&entry.0)?;
+        if self.is_json {
+            self.push_str(",\"")?;
+            self.push_str(names.whole)?;
+            self.push_str("\":")?;
+            self.push_str(entry.1.as_str())?;
+        } else {
+            self.push_str(",\"text\":")?;
+            self.push_text(&entry.1)?;
+        }
+        self.push_str("}")
+    }
+
+    /// Adds how the items of a bibliography are laid out, where they are JSON.
+    fn push_layout(&mut self, style: &SessionStyle) -> Result<(), AllocError> {
+        match &style.styling.style.bibliography {
+            Some(section) if self.is_json => {
+                let layout = layout_of(self.alloc, &section.options)?;
+                self.push_str(layout.as_str())
+            }
+            _ => Ok(()),
+        }
+    }
+
+    /// Adds a text as JSON.
+    fn push_text(&mut self, text: &Text) -> Result<(), AllocError> {
+        let value = Value::String(String::from_str(self.alloc, text.as_str())?);
+        let json = value.to_string(self.alloc)?;
+        self.push_str(json.as_str())
+    }
+
+    fn push_comma(&mut self, place: usize) -> Result<(), AllocError> {
+        if place == 0 {
+            return Ok(());
+        }
+        self.push_str(",")
+    }
 }
 
-fn gone_list(alloc: Global, old: &KeyedTexts, new: &KeyedTexts) -> Result<Value, AllocError> {
-    let mut values = Vec::new(alloc);
-    for key in gone(alloc, old, new)? {
-        values.push(text_value(alloc, key)?)?;
-    }
-    Ok(Value::Array(values))
-}
-
-fn key_list(alloc: Global, texts: &KeyedTexts) -> Result<Value, AllocError> {
-    let mut values = Vec::new(alloc);
-    for (key, _) in texts.as_slice() {
-        values.push(text_value(alloc, key)?)?;
-    }
-    Ok(Value::Array(values))
-}
-
-fn text_value(alloc: Global, text: &Text) -> Result<Value, AllocError> {
-    Ok(Value::String(String::from_str(alloc, text.as_str())?))
+/// The members that say how items are laid out, as in the JSON of an answer.
+fn layout_of(alloc: Global, options: &BibliographyOptions) -> Result<String, AllocError> {
+    let entries = options.entry_spacing;
+    let lines = options.line_spacing;
+    let hangs = options.hanging_indent;
+    let align = match options.second_field_align {
+        None => "",
+        Some(SecondFieldAlign::Flush) => ",\"second_field_align\":\"flush\"",
+        Some(SecondFieldAlign::Margin) => ",\"second_field_align\":\"margin\"",
+    };
+    format!(in alloc;
+        ",\"entry_spacing\":{entries},\"hanging_indent\":{hangs},\"line_spacing\":{lines}{align}"
+    )
 }

@@ -115,6 +115,8 @@ impl Session {
     /// those whose text is another one or new, each with its `key` and its `text`; a list `gone` of
     /// the keys that are gone; and a list `keys` of all keys, in their order, where that is another
     /// than last time. `bibliography` has the same, with `id` and `ids`, where the style has one.
+    /// In the form `json`, `citation` and `item` stand in place of `text`, as the JSON of an answer
+    /// has them (docs/ANSWER.md), and `bibliography` says how items are laid out.
     ///
     /// In a draft, a cite of an item that isn't there is its id in bold letters, with a question
     /// mark. It stands before the cite that followed it, or behind the others where the style sorts
@@ -127,7 +129,7 @@ impl Session {
     /// `TooManyItems`; `OutOfMemory`.
     pub fn answer(&mut self, alloc: Global) -> Result<String, CallError> {
         let texts = self.written(alloc)?;
-        let printed = print_changes(alloc, self.last.as_ref(), &texts)?;
+        let printed = print_changes(alloc, &self.style, self.last.as_ref(), &texts)?;
         self.last = Some(texts);
         Ok(printed)
     }
@@ -139,7 +141,7 @@ impl Session {
     /// Those of `answer`.
     pub fn whole(&mut self, alloc: Global) -> Result<String, CallError> {
         let texts = self.written(alloc)?;
-        let printed = print_changes(alloc, None, &texts)?;
+        let printed = print_changes(alloc, &self.style, None, &texts)?;
         self.last = Some(texts);
         Ok(printed)
     }

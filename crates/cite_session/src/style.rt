@@ -1,7 +1,7 @@
 //! The style of a session.
 use crate::texts::SessionTexts;
 use cite_call::error::CallError;
-use cite_call::options::{AnswerForm, CallOptions, wrong_option};
+use cite_call::options::AnswerForm;
 use cite_call::reader::TextReader;
 use cite_call::remark::Remark;
 use cite_call::styling::Styling;
@@ -15,7 +15,7 @@ pub(crate) struct SessionStyle {
     pub text: Vec<u8>,
     pub styling: Styling,
     /// The form of what is written.
-    pub form: Form,
+    pub form: AnswerForm,
     /// What is odd in the texts.
     pub warnings: Vec<Remark>,
 }
@@ -30,7 +30,10 @@ impl SessionStyle {
     pub fn read(alloc: Global, texts: SessionTexts<'_>) -> Result<SessionStyle, CallError> {
         let mut reader = TextReader::new(alloc);
         let styling = reader.styling(texts.style, texts.locales, texts.options)?;
-        let form = form_of(alloc, &styling.options)?;
+        let form = styling
+            .options
+            .form
+            .unwrap_or(AnswerForm::Lines(Form::Text));
         styling.check(alloc, texts.style)?;
         Ok(SessionStyle {
             text: Vec::from_slice(alloc, texts.style)?,
@@ -38,17 +41,5 @@ impl SessionStyle {
             form,
             warnings: reader.warnings,
         })
-    }
-}
-
-/// The form of texts that options name.
-fn form_of(alloc: Global, options: &CallOptions) -> Result<Form, CallError> {
-    match options.form {
-        None => Ok(Form::Text),
-        Some(AnswerForm::Lines(form)) => Ok(form),
-        Some(AnswerForm::Json) => {
-            let why = "wanted `text`, `html`, `markdown` or `latex`";
-            Err(wrong_option(alloc, "form", why))
-        }
     }
 }

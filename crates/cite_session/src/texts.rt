@@ -7,9 +7,7 @@ pub struct SessionTexts<'t> {
     pub style: &'t [u8],
     /// A JSON list of the texts of locale files; an empty text stands for an empty list.
     pub locales: &'t [u8],
-    /// A JSON object of options; an empty text stands for an empty object. They are those of
-    /// `cite_call::texts::CallTexts`, but that `form` names the form of texts: `text`, which is the
-    /// usual one, `html`, `markdown` or `latex`; and
-    /// where `draft` is true, cites of items that aren't there are no fault.
+    /// A JSON object of options, as `cite_call::texts::CallTexts` has them; but the usual `form` is
+    /// `text`. An empty text stands for an empty object.
     pub options: &'t [u8],
 }

@@ -2,7 +2,7 @@
 use crate::citations::KeyedCitations;
 use crate::library::Library;
 use crate::style::SessionStyle;
-use crate::written::WrittenTexts;
+use crate::written::{TextWriting, WrittenTexts};
 use cite_call::error::CallError;
 use cite_call::styling::CitedItems;
 use cite_host::kept::KeptTexts;
@@ -52,9 +52,12 @@ impl<'s> Materials<'s> {
         };
         let text = self.style.text.as_slice();
         let answer = styling.answer_with(alloc, text, &locale, document, kept)?;
-        let form = self.style.form;
-        let marks = locale.quote_marks();
-        let texts = WrittenTexts::of_answer(alloc, form, &citations.keys, &answer, marks)?;
-        Ok(texts)
+        let writing = TextWriting {
+            form: self.style.form,
+            style: &styling.style,
+            citations: &citations.citations,
+            marks: locale.quote_marks(),
+        };
+        Ok(WrittenTexts::of_answer(alloc, writing, &citations.keys, &answer)?)
     }
 }

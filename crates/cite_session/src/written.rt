@@ -1,12 +1,16 @@
 //! The texts of an answer.
 use crate::changes::KeyedTexts;
+use cite_answer::printing::{print_citation, print_item};
+use cite_call::options::AnswerForm;
 use cite_host::answer::{Answer, ListedItem};
+use cite_host::cites::Citation;
 use cite_pieces::pieces::Pieces;
 use csl_base::text::Text;
 use csl_texts::quotes::QuoteMarks;
 use ordered_map::map::OrderedMap;
 use std::alloc::{AllocError, Global};
-use write_forms::forms::{Form, written};
+use style_file::style::CslStyle;
+use write_forms::forms::written;
 use write_forms::items::written_item;
 
 /// The texts of an answer in a form.
@@ -18,6 +22,16 @@ pub(crate) struct WrittenTexts {
     pub bibliography: Option<KeyedTexts>,
 }
 
+/// How an answer is written.
+#[derive(Clone, Copy)]
+pub(crate) struct TextWriting<'w> {
+    pub form: AnswerForm,
+    pub style: &'w CslStyle,
+    /// The citations that are answered.
+    pub citations: &'w [Citation],
+    pub marks: QuoteMarks<'w>,
+}
+
 impl WrittenTexts {
     /// The texts of an answer, whose citations have these keys.
     ///
@@ -26,49 +40,62 @@ impl WrittenTexts {
     /// Where memory is refused.
     pub fn of_answer(
         alloc: Global,
-        form: Form,
+        writing: TextWriting<'_>,
         keys: &[String],
         answer: &Answer,
-        marks: QuoteMarks<'_>,
     ) -> Result<WrittenTexts, AllocError> {
         let bibliography = match &answer.bibliography {
-            Some(items) => Some(written_items(alloc, form, items, marks)?),
+            Some(items) => Some(writing.items(alloc, items)?),
             None => None,
         };
         Ok(WrittenTexts {
-            citations: written_citations(alloc, form, keys, &answer.citations, marks)?,
+            citations: writing.citations(alloc, keys, &answer.citations)?,
             bibliography,
         })
     }
 }
 
-fn written_citations(
-    alloc: Global,
-    form: Form,
-    keys: &[String],
-    citations: &[Pieces],
-    marks: QuoteMarks<'_>,
-) -> Result<KeyedTexts, AllocError> {
-    let mut texts = OrderedMap::new(alloc);
-    for (key, citation) in keys.iter().zip(citations) {
-        let text = written(alloc, form, citation, &[], marks)?;
-        add(alloc, &mut texts, key.as_str(), text)?;
+impl<'w> TextWriting<'w> {
+    /// The texts of citations with these keys.
+    fn citations(
+        self,
+        alloc: Global,
+        keys: &[String],
+        citations: &[Pieces],
+    ) -> Result<KeyedTexts, AllocError> {
+        let mut texts = OrderedMap::new(alloc);
+        for (place, (key, citation)) in keys.iter().zip(citations).enumerate() {
+            let text = match self.form {
+                AnswerForm::Lines(form) => written(alloc, form, citation, &[], self.marks)?,
+                AnswerForm::Json => {
+                    let TextWriting {
+                        style,
+                        citations,
+                        marks,
+                        ..
+                    } = self;
+                    print_citation(alloc, style, citations, place, citation, marks)?
+                }
+            };
+            add(alloc, &mut texts, key.as_str(), text)?;
+        }
+        Ok(texts)
     }
-    Ok(texts)
-}
 
-fn written_items(
-    alloc: Global,
-    form: Form,
-    items: &[ListedItem],
-    marks: QuoteMarks<'_>,
-) -> Result<KeyedTexts, AllocError> {
-    let mut texts = OrderedMap::new(alloc);
-    for item in items {
-        let text = written_item(alloc, form, &item.first_field, &item.content, marks)?;
-        add(alloc, &mut texts, item.id.as_str(), text)?;
+    /// The texts of the items of a bibliography.
+    fn items(self, alloc: Global, items: &[ListedItem]) -> Result<KeyedTexts, AllocError> {
+        let mut texts = OrderedMap::new(alloc);
+        for item in items {
+            let text = match self.form {
+                AnswerForm::Lines(form) => {
+                    written_item(alloc, form, &item.first_field, &item.content, self.marks)?
+                }
+                AnswerForm::Json => print_item(alloc, item, self.marks)?,
+            };
+            add(alloc, &mut texts, item.id.as_str(), text)?;
+        }
+        Ok(texts)
     }
-    Ok(texts)
 }
 
 /// Adds a text with its key.

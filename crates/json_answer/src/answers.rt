@@ -71,7 +71,7 @@ fn write_field(out: &mut String, field: &Option<ElemChild>) -> Result<(), AllocE
     }
 }
 
-fn write_item(out: &mut String, item: &BibliographyItem) -> Result<(), AllocError>
+pub(crate) fn write_item(out: &mut String, item: &BibliographyItem) -> Result<(), AllocError>
     ensures { OnOk result
         (string_bytes out.new ≡ string_bytes out.old ++ compact_text (item_data item.now)) }
 {
@@ -122,7 +122,10 @@ fn write_bibliography(
     out.push('}')
 }
 
-fn write_citation(out: &mut String, citation: &RenderedCitation) -> Result<(), AllocError>
+pub(crate) fn write_citation(
+    out: &mut String,
+    citation: &RenderedCitation,
+) -> Result<(), AllocError>
     ensures { OnOk result (string_bytes out.new
         ≡ string_bytes out.old ++ compact_text (citation_data citation.now)) }
 {
