@@ -230,6 +230,31 @@ def try_draft(program):
         raise Failed('%r' % warnings)
 
 
+# How the example's items are laid out, by its file and the defaults of CSL.
+LAYOUT = {'hanging_indent': True, 'entry_spacing': 1, 'line_spacing': 1}
+
+
+def plain(tree):
+    """The plain text of a tree."""
+    return ''.join(node['text'] if 'text' in node else plain(node['children']) for node in tree)
+
+
+def try_json(program):
+    """As JSON, a session gives trees, whose plain texts are its texts, and how items are laid out."""
+    told = [line('style', AUTHOR_DATE + ' {"form": "json"}'), line('answer', ''),
+            line('items', [work('r', 'Roe', 2001)]), line('answer', '')]
+    first, second = [it for it in answers(program, ONE + told) if 'citations' in it][1:]
+    got = [{it['key']: plain(it['citation']['content']) for it in answer['citations']['changed']} for answer in (first, second)]
+    if got != [{'x': '(Doe 1999)', 'y': '(Roe 2000)'}, {'y': '(Roe 2001)'}]:
+        raise Failed('%r' % got)
+    (item,) = second['bibliography']['changed']
+    if (item['id'], item['item']['key'], plain(item['item']['content'])) != ('r', 'r', 'Roe, Ann. 2001. T.'):
+        raise Failed('%r' % item)
+    layout = {name: second['bibliography'].get(name) for name in ('hanging_indent', 'entry_spacing', 'line_spacing')}
+    if layout != LAYOUT:
+        raise Failed('%r' % layout)
+
+
 # Memory
 
 STYLE = """<style xmlns="http://purl.org/net/xbiblio/csl" version="1.0" class="in-text">
@@ -260,7 +285,7 @@ def main():
     parser.add_argument('--seed', type=int, default=1)
     options = parser.parse_args()
     tests = [('sequences', try_sequences, options.sequences, options.seed), ('list', try_list), ('draft', try_draft),
-             ('memory', try_memory)]
+             ('json', try_json), ('memory', try_memory)]
     tests += [(name, try_case, *it) for name, it in CASES.items()]
     tests += [(name, try_refused, *it) for name, it in REFUSED.items()]
     return count(tests, os.path.abspath(options.program))
