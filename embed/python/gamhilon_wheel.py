@@ -98,7 +98,7 @@ def has_program():
     return os.path.exists(PROGRAM)
 
 
-def place_of_program():
+def path_of_program():
     """The path of the program in the wheel: installers put it on PATH from there (PEP 427)."""
     return f'{NAME}-{version()}.data/scripts/{NAME}'
 
@@ -121,7 +121,7 @@ def files():
     found[f'{NAME}/libgamhilon.so'] = read(library)
     found[f'{NAME}/gamhilon_build.json'] = read(note) if os.path.exists(note) else b'{}\n'
     if has_program():
-        found[place_of_program()] = read(PROGRAM)
+        found[path_of_program()] = read(PROGRAM)
     info = f'{NAME}-{version()}.dist-info'
     found[f'{info}/METADATA'] = metadata()
     found[f'{info}/WHEEL'] = WHEEL.format(tag=tag()).encode()
@@ -147,7 +147,7 @@ def entry_of(name):
     """What the archive says of a file: who may do what with it, and a fixed date, so that one
     library and one program make one wheel."""
     entry = zipfile.ZipInfo(name, (2026, 1, 1, 0, 0, 0))
-    rights = 0o755 if name == place_of_program() else 0o644
+    rights = 0o755 if name == path_of_program() else 0o644
     entry.external_attr = (stat.S_IFREG | rights) << 16
     return entry
 

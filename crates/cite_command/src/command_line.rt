@@ -87,16 +87,16 @@ fn writing<'a>(
     about: &'a str,
     citations: Arg<'a>,
 ) -> Result<Command<'a>, AllocError> {
-    let words = Vec::from_array(alloc, words(alloc, citations))?;
     Command::new(alloc, name)
         .about(about)
         .after_help(WRITING_NOTES)
-        .args(words)
+        .args(Vec::from_array(alloc, style_words(alloc))?)?
+        .args(Vec::from_array(alloc, form_words(alloc))?)?
+        .args(Vec::from_array(alloc, file_words(alloc, citations))?)
 }
 
-/// The options of a command that writes, and its files.
-fn words<'a>(alloc: Global, citations: Arg<'a>) -> [Arg<'a>; 14] {
-    let formats: &'a [&'a str] = &["text", "html", "markdown", "latex", "json"];
+/// The style of a command that writes, and where its files are.
+fn style_words<'a>(alloc: Global) -> [Arg<'a>; 5] {
     [
         style(alloc),
         valued(
@@ -113,6 +113,13 @@ fn words<'a>(alloc: Global, citations: Arg<'a>) -> [Arg<'a>; 14] {
             "FILE",
             "Short forms, as of the titles of journals, in JSON",
         ),
+    ]
+}
+
+/// In which form a command writes, and of what.
+fn form_words<'a>(alloc: Global) -> [Arg<'a>; 4] {
+    let formats: &'a [&'a str] = &["text", "html", "markdown", "latex", "json"];
+    [
         form(alloc, formats),
         flag(alloc, "standalone", "A whole page of HTML"),
         flag(
@@ -125,6 +132,12 @@ fn words<'a>(alloc: Global, citations: Arg<'a>) -> [Arg<'a>; 14] {
             "draft",
             "Cites of items that aren't there stand as their ids, with a question mark",
         ),
+    ]
+}
+
+/// What the style may take, and the files of references and citations.
+fn file_words<'a>(alloc: Global, citations: Arg<'a>) -> [Arg<'a>; 5] {
+    [
         limit(
             alloc,
             "most-steps",

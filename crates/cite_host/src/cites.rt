@@ -39,7 +39,7 @@ pub struct MissingCite {
 #[derive(Drop)]
 pub struct Citation {
     pub cites: Vec<Cite>,
-    /// The cites whose items aren't there that stand behind all others.
+    /// The cites that follow all others, and whose items aren't there.
     pub missing_behind: Vec<MissingCite>,
     /// The number of the note in which it stands; without one, each citation has a note of its own.
     pub note: Option<usize>,

@@ -4,8 +4,9 @@ use Rattle.cite_names.specs.declared.rules.Cut.{Cut}
 use Rattle.cite_names.specs.declared.shown.ShownNames.{ShownNames}
 use Rattle.cite_names.specs.declared.shown.ShownNames.TheVariants.{All, First, FirstAndLast}
 
--- a list of `count` names that is truncated after the first `kept` ones. The last name follows where
--- that is asked for, if the list has at least two more names than are kept, and one is kept at least
+-- a list of `count` names that is truncated after the first `kept` ones. The last name follows
+-- where that is asked for, if the list has at least two more names than are kept, and one is kept
+-- at least
 abbrev pub truncated : ℕ → Bool → ℕ → ShownNames
 truncated kept use_last count = if nat_le count kept then All
     else (if use_last && nat_lt 0 kept && nat_le (kept + 2) count then FirstAndLast kept

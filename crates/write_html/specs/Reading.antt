@@ -2,8 +2,8 @@
 use Rattle.std.specs.Prelude.{ℕ, List, [], ◌∷◌, ◌++◌, ◌==◌, if◌then◌else◌}
 use Rattle.std.specs.Str.{byte}
 
--- what is read: a byte of the text, a character reference (what stands between & and ;), a tag (what
--- stands between < and >)
+-- what is read: a byte of the text, a character reference (what stands between & and ;), a tag
+-- (what stands between < and >)
 pub data Token : Type 0 where
   Letter : ℕ → Token
   Reference : List ℕ → Token

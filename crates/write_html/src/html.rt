@@ -59,7 +59,8 @@ pub fn html(alloc: Global, pieces: &Pieces, marks: QuoteMarks<'_>) -> Result<Str
 /// The pieces of a stream as HTML.
 fn html_of(alloc: Global, pieces: &[Piece], marks: QuoteMarks<'_>) -> Result<String, AllocError>
     ensures html { IfOk result (λ html. IsHtml (string_bytes html)) }
-    ensures text { IfOk result (λ html. text_in (string_bytes html) ≡ shown marks.entry pieces.now) }
+    ensures text { IfOk result (λ html. text_in (string_bytes html)
+        ≡ shown marks.entry pieces.now) }
 {
     let mut page = Page {
         alloc,
