@@ -61,18 +61,14 @@ struct Joining<'c> {
 }
 
 impl<'c> Joining<'c> {
-    fn new(
-        alloc: Global,
-        layout: &'c Layout,
-        asked: &'c Citation,
-    ) -> Result<Joining<'c>, AllocError> {
-        Ok(Joining {
+    fn new(alloc: Global, layout: &'c Layout, asked: &'c Citation) -> Joining<'c> {
+        Joining {
             alloc,
             layout,
             asked,
             added: BTreeSet::new(alloc),
             stream: Pieces::new(alloc),
-        })
+        }
     }
 
     /// Adds the cite of this number, and the missing ones before it.
