@@ -51,6 +51,7 @@ pub(crate) fn in_layout(
 }
 
 /// The stream of a citation, to which its cites are added.
+#[derive(Drop)]
 struct Joining<'c> {
     alloc: Global,
     layout: &'c Layout,

@@ -65,6 +65,7 @@ pub(crate) fn print_changes(
 }
 
 /// Prints what changed.
+#[derive(Drop)]
 struct Printer {
     alloc: Global,
     /// Whether the texts are JSON themselves.
