@@ -1,4 +1,9 @@
 //! Trees of streams.
+ghost use Rattle.std.specs.Prelude.{◌≡◌, ◌∷◌, ◌++◌, ◌-◌, [], IfOk, OnOk, length, string_bytes};
+ghost use Rattle.csl_trees.specs.ChildView.{child_view};
+ghost use Rattle.csl_trees.specs.Tree.{child_plain, plain};
+ghost use Rattle.cite_trees.specs.Plain.{before_opened, texts, written};
+
 use crate::streams::stream_of;
 use cite_pieces::formatting::TextFormatting;
 use cite_pieces::piece::{Mark, Piece, Wrap};
@@ -26,7 +31,7 @@ pub fn tree_variable(variable: NameVariable) -> taxonomy::NameVariable {
 }
 
 /// The tree of a stream that is written into text of this formatting; `names` has the persons of
-/// its marks of names.
+/// its marks of names. Its plain text is the stream's.
 ///
 /// # Errors
 ///
@@ -36,7 +41,9 @@ pub fn tree_of(
     stream: Pieces,
     around: TextFormatting,
     names: &[NamedPersons],
-) -> Result<ElemChildren, AllocError> {
+) -> Result<ElemChildren, AllocError>
+    ensures { IfOk result (λ tree. plain tree ≡ texts stream.pieces.items) }
+{
     let mut builder = Builder {
         alloc,
         names,
@@ -47,11 +54,7 @@ pub fn tree_of(
         open: Vec::new(alloc),
     };
     for piece in stream.into_vec() {
-        match piece {
-            Piece::Text(text) => builder.push_text(text)?,
-            Piece::Open(wrap) => builder.open(wrap)?,
-            Piece::Close => builder.close()?,
-        }
+        builder.read(piece)?;
     }
     for _ in 0..builder.open.len() {
         builder.close()?;
@@ -101,7 +104,20 @@ enum Opened {
 }
 
 impl Builder<'_> {
-    fn push_text(&mut self, text: String) -> Result<(), AllocError> {
+    fn read(&mut self, piece: Piece) -> Result<(), AllocError>
+        ensures { OnOk result (written self.new ≡ written self.old ++ texts (piece ∷ [])) }
+    {
+        match piece {
+            Piece::Text(text) => self.push_text(text),
+            Piece::Open(wrap) => self.open(wrap),
+            Piece::Close => self.close(),
+        }
+    }
+
+    #[tactic(auto, using(crate::proofs::Written::text_pushed))]
+    fn push_text(&mut self, text: String) -> Result<(), AllocError>
+        ensures { OnOk result (written self.new ≡ written self.old ++ string_bytes text) }
+    {
         if self.text.is_empty() {
             self.text = text;
             return Ok(());
@@ -110,23 +126,38 @@ impl Builder<'_> {
     }
 
     /// Makes a child of the text behind the children.
-    fn end_text(&mut self) -> Result<(), AllocError> {
+    #[tactic(auto, using(crate::proofs::Written::text_ended))]
+    fn end_text(&mut self) -> Result<(), AllocError>
+        ensures text { OnOk result (string_bytes self.new.text ≡ []) }
+        ensures children { OnOk result (plain self.new.children
+            ≡ plain self.old.children ++ string_bytes self.old.text) }
+        ensures wraps { self.new.open ≡ self.old.open }
+    {
         if self.text.is_empty() {
             return Ok(());
         }
         let text = replace(&mut self.text, String::new(self.alloc));
-        let formatted = tree_formatting(self.formatting).add_text(text);
-        let child = match &self.url {
-            Some(url) => ElemChild::Link {
-                text: formatted,
-                url: url.clone()?,
-            },
-            None => ElemChild::Text(formatted),
-        };
+        let child = self.child_of(text)?;
         self.children.push(child)
     }
 
-    fn open(&mut self, wrap: Wrap) -> Result<(), AllocError> {
+    /// A text as a child.
+    fn child_of(&self, text: String) -> Result<ElemChild, AllocError>
+        ensures { IfOk result (λ child. child_plain (child_view child) ≡ string_bytes text) }
+    {
+        let text = tree_formatting(self.formatting).add_text(text);
+        match &self.url {
+            Some(url) => Ok(ElemChild::Link {
+                text,
+                url: url.clone()?,
+            }),
+            None => Ok(ElemChild::Text(text)),
+        }
+    }
+
+    fn open(&mut self, wrap: Wrap) -> Result<(), AllocError>
+        ensures { OnOk result (written self.new ≡ written self.old) }
+    {
         if !matches!(&wrap, Wrap::Mark(_)) {
             self.end_text()?;
         }
@@ -178,7 +209,12 @@ impl Builder<'_> {
         Ok(Some(meta))
     }
 
-    fn opened(&mut self, display: Option<tree::Display>, meta: Option<ElemMeta>) -> Opened {
+    fn opened(&mut self, display: Option<tree::Display>, meta: Option<ElemMeta>) -> Opened
+        ensures before { before_opened result ≡ plain self.old.children }
+        ensures children { self.new.children ≡ [] }
+        ensures text { self.new.text ≡ self.old.text }
+        ensures wraps { self.new.open ≡ self.old.open }
+    {
         let before = replace(&mut self.children, ElemChildren::new(self.alloc));
         Opened::Element {
             display,
@@ -187,36 +223,67 @@ impl Builder<'_> {
         }
     }
 
-    fn close(&mut self) -> Result<(), AllocError> {
-        let opened = self.open.pop();
-        if !matches!(&opened, Some(Opened::Nothing)) {
-            self.end_text()?;
+    #[tactic(auto, using(crate::proofs::Written::wrap_closed))]
+    fn close(&mut self) -> Result<(), AllocError>
+        ensures text { OnOk result (written self.new ≡ written self.old) }
+        ensures wraps { OnOk result (length self.new.open.items
+            ≡ length self.old.open.items - 1) }
+    {
+        match self.open.pop() {
+            Some(opened) => self.close_wrap(opened),
+            None => self.end_text(),
         }
+    }
+
+    /// Ends what a wrap has opened.
+    fn close_wrap(&mut self, opened: Opened) -> Result<(), AllocError>
+        ensures text { OnOk result (plain self.new.children ++ string_bytes self.new.text
+            ≡ before_opened opened ++ (plain self.old.children ++ string_bytes self.old.text)) }
+        ensures wraps { self.new.open ≡ self.old.open }
+    {
+        if matches!(&opened, Opened::Nothing) {
+            return Ok(());
+        }
+        self.end_text()?;
         match opened {
-            Some(Opened::Formatting(around)) => self.formatting = around,
-            Some(Opened::Link) => self.url = None,
-            Some(
-                Opened::Element {
-                    display,
-                    meta,
-                    before,
-                },
-            ) => {
-                let children = replace(&mut self.children, before);
-                self.children.push(ElemChild::Elem(Elem {
-                    children: exact(children),
-                    display,
-                    meta,
-                }))?;
-            }
-            Some(Opened::Nothing) | None => {}
+            Opened::Formatting(around) => self.formatting = around,
+            Opened::Link => self.url = None,
+            Opened::Nothing => {}
+            Opened::Element {
+                display,
+                meta,
+                before,
+            } => return self.close_element(display, meta, before),
         }
         Ok(())
+    }
+
+    /// Ends an element: what it has is a child behind those before it.
+    #[tactic(auto, using(crate::proofs::Written::text_ended))]
+    fn close_element(
+        &mut self,
+        display: Option<tree::Display>,
+        meta: Option<ElemMeta>,
+        before: ElemChildren,
+    ) -> Result<(), AllocError>
+        ensures children { OnOk result (plain self.new.children
+            ≡ plain before ++ plain self.old.children) }
+        ensures text { self.new.text ≡ self.old.text }
+        ensures wraps { self.new.open ≡ self.old.open }
+    {
+        let children = exact(replace(&mut self.children, before));
+        self.children.push(ElemChild::Elem(Elem {
+            children,
+            display,
+            meta,
+        }))
     }
 }
 
 /// Children in a list without room for more, since trees are kept.
-fn exact(children: ElemChildren) -> ElemChildren {
+fn exact(children: ElemChildren) -> ElemChildren
+    ensures { result ≡ children }
+{
     let mut children = children;
     children.0.shrink_to_fit();
     children

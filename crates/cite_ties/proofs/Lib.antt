@@ -1,0 +1,3 @@
+-- The proofs of this crate.
+pub mod Groups
+pub mod Runs
