@@ -4,7 +4,6 @@ from __future__ import annotations
 import json
 from typing import Any, Dict, List, Mapping, Optional, Sequence, Tuple, Union
 
-from ._answers_again import AnswerReader
 from ._library import CiteTexts, library
 from ._limits import style_limits
 from .answer import Answer, answer_of
@@ -36,11 +35,8 @@ def texts_of(style: Union[str, bytes], items: Json, citations: Json, locales: Se
                      options=_json_of('options', options))
 
 
-def cite_texts(texts: CiteTexts, warns: bool = True,
-               reader: Optional[AnswerReader] = None) -> Answer:
-    """The answer to these texts, with what is odd in them unless that isn't asked for. A reader is
-    that of answers to texts that are much alike."""
-    read = answer_of if reader is None else reader.read
+def cite_texts(texts: CiteTexts, warns: bool = True) -> Answer:
+    """The answer to these texts, with what is odd in them unless that isn't asked for."""
     try:
         text = library().cite(texts)
     except DocumentRefused:
@@ -48,8 +44,8 @@ def cite_texts(texts: CiteTexts, warns: bool = True,
     except StyleLimitExceeded:
         raise StyleLimitExceeded(_findings(texts)[0]) from None
     if not warns:
-        return read(text.decode())
-    return read(text.decode(), _findings(texts)[1])
+        return answer_of(text.decode())
+    return answer_of(text.decode(), _findings(texts)[1])
 
 
 def _refusal(texts: CiteTexts) -> Exception:

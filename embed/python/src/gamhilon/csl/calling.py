@@ -5,7 +5,6 @@ import json
 from dataclasses import dataclass, replace
 from typing import Any, Dict, List, Mapping, Optional, Sequence, Tuple
 
-from .._answers_again import AnswerReader
 from .._citing import cite_texts
 from .._library import CiteTexts
 from ..answer import Answer
@@ -16,6 +15,7 @@ from .cites import Citation, json_of_citations
 from .entries import Entry
 from .errors import (AbbreviationsRefused, CitationRefused, EntriesRefused, StyleRefused,
                      place)
+from .kept import KeptAnswers
 from .locales import LocaleFile
 from .style import Style
 from .warned import Warned
@@ -42,7 +42,7 @@ class EntryTexts:
 @dataclass(frozen=True)
 class Document:
     """What is rendered: a style, locale files, entries, citations, the language in place of the
-    style's, abbreviations, and limits in place of the usual ones. `reader` and `texts` are those of
+    style's, abbreviations, and limits in place of the usual ones. `kept` and `texts` are those of
     documents that are much alike."""
 
     style: Style
@@ -52,7 +52,7 @@ class Document:
     language: str
     abbreviations: Optional[Abbreviations] = None
     limits: Optional[Mapping[str, int]] = None
-    reader: Optional[AnswerReader] = None
+    kept: Optional[KeptAnswers] = None
     texts: Optional[EntryTexts] = None
     is_draft: bool = False
 
@@ -60,20 +60,33 @@ class Document:
         """The answer, with what is odd unless that isn't asked for. Raises TextRefused where a part
         of the document is wrong; StyleLimitExceeded, NumberOverflow or OutOfMemory; and
         LibraryMissing."""
+        return self.anew(warns) if self.kept is None else self.kept.answer(self, warns)
+
+    def anew(self, warns: bool = True) -> Answer:
+        """The answer, whatever is kept."""
+        style, locales, options = self.styling()
+        texts = CiteTexts(style=style, locales=locales, options=options,
+                          items=self.entries_json(self.entries),
+                          citations=json_of_citations(self.citations))
         try:
-            return cite_texts(self._texts(), warns, self.reader)
+            return cite_texts(texts, warns)
         except StyleLimitExceeded as refusal:
             raise self._excess(refusal) from None
 
-    def _texts(self) -> CiteTexts:
-        return CiteTexts(
-            style=bytes_of(self.style.text), items=(self.texts or EntryTexts()).json(self.entries),
-            citations=json_of_citations(self.citations),
-            locales=json_of([locale.text for locale in self.locales]),
-            options=json_of(self._options()))
+    def styling(self, form: Optional[str] = None) -> Tuple[bytes, bytes, bytes]:
+        """The texts of the style, of the locale files and of the options, with the form of the
+        answer where it isn't the usual one."""
+        return (bytes_of(self.style.text), json_of([locale.text for locale in self.locales]),
+                json_of(self._options(form)))
 
-    def _options(self) -> Dict[str, Any]:
+    def entries_json(self, entries: Sequence[Entry]) -> bytes:
+        """The JSON of some of the entries."""
+        return (self.texts or EntryTexts()).json(entries)
+
+    def _options(self, form: Optional[str]) -> Dict[str, Any]:
         options: Dict[str, Any] = {'locale': self.language}
+        if form is not None:
+            options['form'] = form
         if self.abbreviations is not None:
             options['abbreviations'] = self.abbreviations.value
         if self.limits:

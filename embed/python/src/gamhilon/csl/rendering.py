@@ -4,7 +4,6 @@ from __future__ import annotations
 from dataclasses import replace
 from typing import Dict, Iterable, List, Mapping, Optional, Sequence, Tuple, Union
 
-from .._answers_again import AnswerReader
 from .._deprecated import deprecated
 from .._limits import style_limits
 from .._nearest import meant
@@ -17,6 +16,7 @@ from .cites import Citation, CitationLike, CitationReader, Cite, ids_of
 from .entries import Entry, EntryReader, stand_in, warned_of_stand_in
 from .errors import CitationRefused, StyleRefused, place
 from .handed_in import ReferencesLike, StyleLike, read_of, style_of
+from .kept import KeptAnswers
 from .locales import LocaleFile, Locales, files_for, with_dialect
 from .results import Rendered
 from .style import About, Style, is_locale, language_of, load, name_of
@@ -83,8 +83,8 @@ def render(style: StyleLike, references: Optional[ReferencesLike] = None,
 
 class Renderer:
     """A style with references, which are read once, and write citations as often as they are asked
-    for. One that `is_kept` answers to much the same again and again, and reads of each answer what
-    has changed. Raises what `render` raises of them."""
+    for. One that `is_kept` answers to much the same again and again, and writes and reads what has
+    changed. Raises what `render` raises of them."""
 
     def __init__(self, style: Style, references: ReferencesLike, locale: Optional[str] = None,
                  locales: Optional[Locales] = None, abbreviations: Optional[Abbreviations] = None,
@@ -98,7 +98,7 @@ class Renderer:
         self._language = with_dialect(locale or style.language or LANGUAGE)
         self._files: Optional[List[LocaleFile]] = None
         self._texts = EntryTexts()
-        self._answers, self._alone = (AnswerReader(), AnswerReader()) if is_kept else (None, None)
+        self._answers, self._alone = (KeptAnswers(), KeptAnswers()) if is_kept else (None, None)
 
     def render(self, citations: Sequence[Citation], nocite: Union[str, Iterable[str]] = (),
                warnings: Sequence[Warned] = ()) -> Rendered:
@@ -116,7 +116,7 @@ class Renderer:
         return answer.citations
 
     def _document(self, citations: Sequence[Citation], nocite: Union[str, Iterable[str]],
-                  reader: Optional[AnswerReader]) -> Document:
+                  kept: Optional[KeptAnswers]) -> Document:
         listed = _listed(self._entries, nocite)
         hidden = Citation(tuple(Cite(key, hidden=True) for key in listed))
         asked = [*citations, hidden] if listed else citations
@@ -127,7 +127,7 @@ class Renderer:
         cited = ids_of(asked)
         entries = [entry for key, entry in self._entries.items() if key in cited]
         return Document(self._style, self._files, entries, asked, self._language,
-                        self._abbreviations, self._limits, reader, self._texts, self._is_draft)
+                        self._abbreviations, self._limits, kept, self._texts, self._is_draft)
 
 
 def _references(references: Optional[ReferencesLike],
@@ -290,8 +290,9 @@ def _mended(document: Document, refusal: TextRefused, warnings: List[Warned]) ->
 def _with_stand_ins(document: Document, answer: Answer, warnings: List[Warned]) -> Answer:
     """The answer, in whose list the id stands for an entry of which the style writes nothing. Warns
     of that, and of citations that show nothing."""
-    for number in _showing_nothing(document, answer):
-        if not all(cite.hidden for cite in document.citations[number]):
+    for number, citation in enumerate(answer.citations):
+        if citation.shows_nothing and \
+                not all(cite.hidden for cite in document.citations[number]):
             warnings.append(Warned(f'citation {number}', NOTHING, citation=number))
     if answer.bibliography is None:
         return answer
@@ -302,13 +303,6 @@ def _with_stand_ins(document: Document, answer: Answer, warnings: List[Warned]) 
             item = Item(item.key, _stand_in(item.key))
         items.append(item)
     return replace(answer, bibliography=replace(answer.bibliography, items=items))
-
-
-def _showing_nothing(document: Document, answer: Answer) -> List[int]:
-    """The indices of the citations that show nothing."""
-    if document.reader is not None:
-        return document.reader.showing_nothing(answer)
-    return [number for number, citation in enumerate(answer.citations) if citation.shows_nothing]
 
 
 def _stand_in(key: str) -> Tree:
