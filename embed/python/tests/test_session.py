@@ -1,5 +1,8 @@
 """Sessions. What is expected was worked out by hand from CSL 1.0.2, or is what `render` gives of
 the same."""
+import operator
+from random import Random
+
 import pytest
 
 from gamhilon import csl
@@ -105,3 +108,64 @@ def test_a_closed_session_says_so(cites):
     session.close()
     with pytest.raises(ValueError, match='the session is closed'):
         session.update([])
+
+
+# What is kept between updates, beside an answer from the beginning
+
+def odd_work(key, year):
+    """A work with a key that no item has, of which the library warns."""
+    return {**work(key, 'Odd', year), 'titel': 'x'}
+
+
+def test_what_is_odd_is_in_each_update(cites):
+    works = [odd_work('odd1', 1999), *WORKS, odd_work('odd2', 2001)]
+    asked = [[{'id': 'odd2'}], [{'id': 'doe99'}], [{'id': 'odd1'}]]
+    with csl.Session('author-date', works) as session:
+        for count in (1, 3, 2):
+            given = session.update(asked[:count]).rendered.warnings
+            anew = csl.render('author-date', works, asked[:count]).warnings
+            assert sorted(map(str, given)) == sorted(map(str, anew))
+
+
+def test_citations_that_move_are_not_written_anew(cites):
+    asked = [[{'id': 'doe99'}], [{'id': 'roe00'}]]
+    with csl.Session('author-date', WORKS) as session:
+        first = session.update(asked).rendered.answer
+        then = session.update([[{'id': 'poe01'}], *asked]).rendered.answer
+        assert all(map(operator.is_, first.citations, then.citations[1:]))
+        assert then == csl.render('author-date', WORKS, [[{'id': 'poe01'}], *asked]).answer
+
+
+@pytest.mark.parametrize('style', ['author-date', 'numeric', 'notes', 'labels'])
+def test_edits_by_chance(style, cites):
+    random = Random(5)
+    works = {it['id']: it for it in WORKS}
+    with csl.Session(style, WORKS) as session:
+        for _ in range(40):
+            key = random.choice(list(works))
+            works[key] = work(key, random.choice(['Doe', 'Roe']), random.choice([1999, 2000]))
+            session.put([works[key]])
+            asked = [[{'id': random.choice(list(works))} for _ in range(random.randint(1, 3))]
+                     for _ in range(random.randint(0, 5))]
+            given = session.update(asked).rendered
+            assert given.answer == csl.render(style, list(works.values()), asked).answer
+
+
+# Drafts
+
+def test_a_draft_shows_what_is_missing(cites):
+    """As pandoc 2.17 writes it."""
+    asked = [[{'id': 'doe98'}], [{'id': 'doe99'}, {'id': 'nobody', 'prefix': 'see '}]]
+    rendered = csl.render('author-date', WORKS, asked, draft=True)
+    assert rendered.citations == ['(doe98?)', '(Doe 1999; see nobody?)']
+    assert rendered.citations[0].to_html() == '(<b>doe98?</b>)'
+    assert rendered.citations[1].to_html(links=True) == \
+        '(<a href="#ref-doe99">Doe 1999</a>; see <b>nobody?</b>)'
+    assert [str(it) for it in rendered.warnings] == [
+        "citation 0, cite 0, id: there is no entry 'doe98': is 'doe99' meant?",
+        "citation 1, cite 1, id: there is no entry 'nobody'"]
+
+
+def test_no_draft_refuses_what_is_missing(cites):
+    with pytest.raises(csl.CitationRefused):
+        csl.render('author-date', WORKS, [[{'id': 'nobody'}]])
