@@ -136,7 +136,7 @@ def render(document: Document, *, limits: Optional[Limits] = None) -> Answer:
 def cite(style: Union[str, bytes], items: Union[Json, references.References], citations: Json, *,
          locales: Sequence[str] = (), locale: Optional[str] = None, nocite: bool = False,
          abbreviations: Optional[Mapping[str, Any]] = None, most_steps: Optional[int] = None,
-         most_bytes: Optional[int] = None) -> Answer:
+         most_bytes: Optional[int] = None, draft: bool = False) -> Answer:
     """Citations and a bibliography by a style file, from texts alone (docs/WRITER.md).
 
     `style` is the text of a style file of CSL 1.0.2, `items` CSL-JSON or what `references.load`
@@ -148,7 +148,9 @@ def cite(style: Union[str, bytes], items: Union[Json, references.References], ci
     `locale` is a language tag, in place of the style's. With `nocite` all items are listed.
     `abbreviations` are short forms of texts, as the JSON of pandoc and Zotero has them.
     `most_steps` and `most_bytes` are what the style may take for each cite and each item, in place
-    of what no published style comes near (docs/STYLE_FILES.md).
+    of what no published style comes near (docs/STYLE_FILES.md). In a `draft`, a cite of an item that
+    isn't there is its id in bold letters, and an item with a fault is left out, each with a
+    warning.
 
         answer = gamhilon.cite(open('apa.csl').read(), items, [[{'id': 'doe99', 'locator': '4'}]])
 
@@ -159,7 +161,7 @@ def cite(style: Union[str, bytes], items: Union[Json, references.References], ci
     """
     given = items.items if isinstance(items, references.References) else items
     return cite_texts(texts_of(style, given, citations, locales, locale, nocite, abbreviations,
-                               most_steps, most_bytes))
+                               most_steps, most_bytes, draft))
 
 
 def drive_once(document: Document) -> Union[Answer, Missing]:

@@ -131,6 +131,9 @@ def _add_cite(commands: Any) -> None:
                           help='short forms, as of the titles of journals, in JSON')
         made.add_argument('--nocite', action='store_true',
                           help='references are listed that no cite is of')
+        made.add_argument('--draft', action='store_true',
+                          help="cites of references that aren't there stand as their ids, with a "
+                               'question mark')
         _add_style_limits(made)
         _add_forms(made)
 
@@ -235,7 +238,7 @@ def _asked(words: argparse.Namespace) -> Asked:
     """What a command line of `cite` or `bibliography` asks for."""
     return Asked(words.style, words.styles, words.locale, words.locales, words.abbreviations,
                  words.to, words.standalone, [words.references, *words.more], words.citations,
-                 words.nocite, words.most_steps, words.most_bytes)
+                 words.nocite, words.most_steps, words.most_bytes, words.draft)
 
 
 def run(words: argparse.Namespace) -> int:

@@ -30,6 +30,7 @@ class Asked:
     lists_all: bool
     most_steps: Optional[int] = None
     most_bytes: Optional[int] = None
+    is_draft: bool = False
 
     def inputs(self) -> int:
         """How many of the files are standard input."""
@@ -107,7 +108,8 @@ def _rendered(asked: Asked, works: Works) -> Tuple[csl.Rendered, int]:
             rendered = csl.render(style, list(works.items.values()), citations,
                                   locale=asked.locale, locales=asked.locales,
                                   abbreviations=asked.abbreviations,
-                                  most_steps=asked.most_steps, most_bytes=asked.most_bytes)
+                                  most_steps=asked.most_steps, most_bytes=asked.most_bytes,
+                                  draft=asked.is_draft)
     except csl.CitationRefused as error:
         raise _Failed(f'{name_of(str(asked.citations))}: {error}', NOT_OF_ITS_FORM) from error
     except Refused as error:

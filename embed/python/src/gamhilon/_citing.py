@@ -19,10 +19,12 @@ Json = Union[List[Any], Dict[str, Any], str, bytes]
 def texts_of(style: Union[str, bytes], items: Json, citations: Json, locales: Sequence[str],
              locale: Optional[str], nocite: bool,
              abbreviations: Optional[Mapping[str, Any]], most_steps: Optional[int] = None,
-             most_bytes: Optional[int] = None) -> CiteTexts:
+             most_bytes: Optional[int] = None, draft: bool = False) -> CiteTexts:
     """The texts of the call. Raises TextRefused where one can't be written as JSON, and
     LimitsRefused."""
     options: Dict[str, Any] = {'nocite': True} if nocite else {}
+    if draft:
+        options['draft'] = True
     limits = style_limits(most_steps, most_bytes)
     if limits:
         options['limits'] = limits
