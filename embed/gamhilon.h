@@ -3,7 +3,8 @@
  * gamhilon_cite takes the texts of a style file, of items and of citations (docs/WRITER.md). The
  * other calls take a document, which is JSON (docs/DOCUMENT.md; for the driven calls
  * docs/DRIVEN.md). A call puts what comes of them into a buffer of the caller's. Nothing stays
- * between calls, and nothing is to be initialised or freed.
+ * between calls, and nothing is to be initialised or freed. A session alone (gamhilon_session_open)
+ * is kept from one call to the next, and closed.
  *
  * As long as the first number of GAMHILON_VERSION stays 0, a change of its second number may change
  * calls; from 1.0.0 on the calls, the statuses and the name of the shared object stay as long as
@@ -61,6 +62,9 @@ extern "C" {
 /* A style file takes more steps, or writes more, than its limits let it. gamhilon_find_cite_fault
  * gives the line, but where it does so only through what the items have. */
 #define GAMHILON_LIMIT_EXCEEDED 10u
+
+/* The session isn't open: it never was, or it is closed, or what was to open it was refused. */
+#define GAMHILON_SESSION_NOT_OPEN 11u
 
 /* A text for people that says what a status means. It has no line feed, ends with a NUL, and is
  * never freed. */
@@ -195,6 +199,129 @@ uint32_t gamhilon_find_cite_fault(const uint8_t *style, size_t style_length,
                                   const uint8_t *citations, size_t citations_length,
                                   const uint8_t *options, size_t options_length,
                                   uint8_t *buffer, size_t buffer_length, size_t *needed);
+
+/* ---- Sessions -----------------------------------------------------------------------------------
+ *
+ * A document that is edited, and asked for again at each change (docs/GUIDES/SESSIONS.md). A
+ * session owns a style, items and citations. Each answer has what changed since the one before, and
+ * what didn't change isn't written again.
+ *
+ *     gamhilon_session session = GAMHILON_NO_SESSION;
+ *     uint32_t status = gamhilon_session_open(&session, style, style_length, NULL, 0, NULL, 0);
+ *     if (status == GAMHILON_OK)
+ *         status = gamhilon_session_put_items(&session, items, items_length);
+ *     ...
+ *     status = gamhilon_session_set_citations(&session, citations, citations_length);
+ *     if (status == GAMHILON_OK)
+ *         status = gamhilon_session_answer(&session, buffer, buffer_length, &needed);
+ *     ...
+ *     gamhilon_session_close(&session);
+ *
+ * embed/c/session.c is a whole program.
+ *
+ * - A gamhilon_session begins as GAMHILON_NO_SESSION. Only these calls change it. It may be moved
+ *   in memory between calls, but of two copies only one may be used from then on.
+ * - One session is used by one thread at a time, and stays on the thread that opened it. Any number
+ *   of sessions may be used at once, each by a thread of its own.
+ * - A call that ends with another status than GAMHILON_OK leaves the session as it was: its style,
+ *   its items, its citations, and what the last answer had. That is tested, with each growth of
+ *   memory refused in turn. After GAMHILON_OUT_OF_MEMORY the call may be made again.
+ * - The texts are those of gamhilon_cite, and aren't needed after the call. Memory is taken by
+ *   malloc and realloc; gamhilon_session_close frees it all. Between calls a session has its texts
+ *   as values, what it wrote for the last answers, and the last answer.
+ * - What "Answers" above says of buffers holds here too. An answer that doesn't fit isn't written
+ *   again: the session keeps it, and the next gamhilon_session_answer gives it, whatever was edited
+ *   in between; what those edits change is in the answer after that.
+ * - Give a thread that calls 2 MiB of stack, as for gamhilon_cite. */
+
+/* A session, or none. What is in it is the library's. */
+typedef struct {
+    void *held;
+} gamhilon_session;
+
+/* No session: what a gamhilon_session begins with, and what it is once it is closed. */
+#define GAMHILON_NO_SESSION {NULL}
+
+/* Opens a session in a style, with no items and no citations, in place of the one that is open, if
+ * any. The options are those of gamhilon_cite; `form` is `text`, which is the usual one, `html`,
+ * `markdown` or `latex`, and where `draft` is true, a cite of an item that isn't there is no fault.
+ *
+ * Ends with GAMHILON_OK, GAMHILON_DOCUMENT_REFUSED, GAMHILON_LIMIT_EXCEEDED or
+ * GAMHILON_OUT_OF_MEMORY. gamhilon_session_error says what is wrong; close the session then too. */
+uint32_t gamhilon_session_open(gamhilon_session *session,
+                               const uint8_t *style, size_t style_length,
+                               const uint8_t *locales, size_t locales_length,
+                               const uint8_t *options, size_t options_length);
+
+/* From now on the document is written in another style, with its own locales and options.
+ *
+ * Ends with the statuses of gamhilon_session_open, or with GAMHILON_SESSION_NOT_OPEN. */
+uint32_t gamhilon_session_set_style(gamhilon_session *session,
+                                    const uint8_t *style, size_t style_length,
+                                    const uint8_t *locales, size_t locales_length,
+                                    const uint8_t *options, size_t options_length);
+
+/* Puts items, which are CSL-JSON: each is new, or stands in place of the one with its id.
+ *
+ * Ends with GAMHILON_OK, GAMHILON_DOCUMENT_REFUSED, GAMHILON_OUT_OF_MEMORY or
+ * GAMHILON_SESSION_NOT_OPEN. */
+uint32_t gamhilon_session_put_items(gamhilon_session *session, const uint8_t *items,
+                                    size_t items_length);
+
+/* Removes the items of these ids, which are a JSON list of texts or numbers. Ids that no item has
+ * are ignored.
+ *
+ * Ends with the statuses of gamhilon_session_put_items. */
+uint32_t gamhilon_session_remove_items(gamhilon_session *session, const uint8_t *ids,
+                                       size_t ids_length);
+
+/* Puts these citations in place of all others: always the whole list, as gamhilon_cite has it. The
+ * key of a citation is its `citationID`, or else its place in the list, from 0. Two citations with
+ * one key are refused.
+ *
+ * Ends with the statuses of gamhilon_session_put_items. */
+uint32_t gamhilon_session_set_citations(gamhilon_session *session, const uint8_t *citations,
+                                        size_t citations_length);
+
+/* Puts what changed since the last answer into the buffer, as JSON; at the first answer that is
+ * all:
+ *
+ *     {"bibliography":{"changed":[{"id":"doe","text":".."}],"gone":[],"ids":["doe"]},
+ *      "citations":{"changed":[{"key":"a","text":"(Doe 1999)"}],"gone":[],"keys":["a"]}}
+ *
+ * `bibliography` is there where the style has one; `keys` and `ids` where they, or their order, are
+ * others than last time.
+ *
+ * Ends with GAMHILON_OK, GAMHILON_DOCUMENT_REFUSED, GAMHILON_NUMBER_OVERFLOW,
+ * GAMHILON_OUT_OF_MEMORY, GAMHILON_BUFFER_TOO_SMALL, GAMHILON_LIMIT_EXCEEDED or
+ * GAMHILON_SESSION_NOT_OPEN. */
+uint32_t gamhilon_session_answer(gamhilon_session *session, uint8_t *buffer, size_t buffer_length,
+                                 size_t *needed);
+
+/* Puts all citations and items into the buffer, in the form of a first answer. The next
+ * gamhilon_session_answer has what changed since.
+ *
+ * Ends with the statuses of gamhilon_session_answer. */
+uint32_t gamhilon_session_whole(gamhilon_session *session, uint8_t *buffer, size_t buffer_length,
+                                size_t *needed);
+
+/* Puts what was read otherwise than it stands in the texts into the buffer, as the `warnings` of
+ * gamhilon_find_cite_fault; in a draft also the cites of items that aren't there.
+ *
+ * Ends with GAMHILON_OK, GAMHILON_OUT_OF_MEMORY, GAMHILON_BUFFER_TOO_SMALL or
+ * GAMHILON_SESSION_NOT_OPEN. */
+uint32_t gamhilon_session_warnings(gamhilon_session *session, uint8_t *buffer,
+                                   size_t buffer_length, size_t *needed);
+
+/* Puts a text for people into the buffer, which says what was wrong with the last call that was
+ * refused, as `citations: /0/0/id: there is no item `doe``. It is empty where nothing was.
+ *
+ * Ends with the statuses of gamhilon_session_warnings. */
+uint32_t gamhilon_session_error(gamhilon_session *session, uint8_t *buffer, size_t buffer_length,
+                                size_t *needed);
+
+/* Closes the session, and frees what it has. Where none is open, it does nothing. */
+void gamhilon_session_close(gamhilon_session *session);
 
 /* ---- Documents from others ----------------------------------------------------------------------
  *

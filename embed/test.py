@@ -58,7 +58,8 @@ def compile_all(folder):
     strict = ['-Wall', '-Wextra', '-pedantic', '-Werror', f'-I{HERE}']
     wraps = ['-Wl,--wrap=malloc,--wrap=realloc,--wrap=free']
     sources = {'calls': [], 'stack': [], 'threads': [], 'many': [], 'about': [], 'limits': [],
-               'driven': [], 'cites': [], 'failing': wraps, '../c/print': [], '../c/cite': []}
+               'driven': [], 'cites': [], 'failing': wraps, 'sessions': wraps, '../c/print': [],
+               '../c/cite': [], '../c/session': []}
     for name, more in sources.items():
         standard = '-std=c99' if name.startswith('..') else '-std=gnu11'
         made = ran(*compiler, standard, '-O1', '-g', '-pthread', *strict, *more, '-o',
@@ -390,6 +391,53 @@ def try_hard_texts(folder, texts, answered):
     hold(done.returncode == 2 and b'"file":"style"' in done.stderr, 'c/cite.c: what is no style')
 
 
+def texts_of_session(folder, length, place):
+    """What a session says to the edits of tests/sessions.c, in a buffer of that length: statuses
+    and texts."""
+    done = ran(f'{folder}/sessions', str(length), place)
+    hold(done.returncode == 0, f'sessions {length}: {done.stderr.decode()[:600]}')
+    said, at = [], 0
+    while at < len(done.stdout):
+        end = done.stdout.index(b'\n', at)
+        status, size = map(int, done.stdout[at:end].split())
+        size = size if status == 0 else 0
+        said.append((status, done.stdout[end + 1:end + 1 + size]))
+        at = end + 1 + size
+    return said
+
+
+def try_sessions(folder):
+    """Sessions from C: a document that is edited, in a buffer that fits and in one of a byte;
+    refused memory, threads, valgrind; and the example."""
+    import texts
+    place = put_texts(folder, 'session', texts.SESSION)
+    said = texts_of_session(folder, 1 << 15, place)
+    hold(said == texts_of_session(folder, 1, place), 'a session in a buffer of one byte')
+    statuses = [status for status, _ in said]
+    hold(statuses == texts.SESSION_STATUSES, f'the statuses of a session: {statuses}')
+    told = [text.decode() for status, text in said if status == 0 and text]
+    for number, (text, wanted) in enumerate(zip(told, texts.SESSION_TEXTS)):
+        hold(text.startswith(wanted) if isinstance(wanted, str) else json.loads(text) == wanted,
+             f'text {number} of a session: {text}')
+    hold(len(told) == len(texts.SESSION_TEXTS), f'{len(told)} texts of a session')
+    for words, what in ((['--refuse'], 'each growth of a session refused in turn'),
+                        (['--threads'], 'sessions in eight threads')):
+        done = ran(f'{folder}/sessions', *words, place, timeout=900)
+        hold(done.returncode == 0, f'{what}: {done.stdout.decode()} {done.stderr.decode()[-600:]}')
+    if has_tool('valgrind', 'leaks and wrong reads of sessions'):
+        done = ran(*VALGRIND, f'{folder}/sessions', '1', place)
+        hold(done.returncode == 0, f'valgrind, sessions: {done.stderr.decode()[:900]}')
+    files = [f'{place}/{name}' for name in ('style.csl', 'items.json', 'citations.json')]
+    done = ran(f'{folder}/session', *files, files[-1])
+    lines = done.stdout.decode().splitlines()
+    hold(done.returncode == 0 and len(lines) == 2 and '(Doe 1999)' in lines[0]
+         and json.loads(lines[1])['citations'] == {'changed': [], 'gone': []},
+         f'c/session.c: {done.returncode}, {lines}, {done.stderr.decode()}')
+    done = ran(f'{folder}/session', files[1], *files[1:])
+    hold(done.returncode == 2 and b'style:' in done.stderr,
+         f'c/session.c: what is no style: {done.stderr.decode()}')
+
+
 def try_driven(folder):
     """A host that writes what is missing until there is an answer; buffers that are too small;
     refused memory; and where a driven document is wrong."""
@@ -629,6 +677,7 @@ def main(words):
                               (try_many_calls, folder, cases, calls),
                               (try_hard, folder, cases),
                               (try_texts, folder),
+                              (try_sessions, folder),
                               (installing.try_building, folder),
                               (try_driving,),
                               (try_limits, folder, cases),

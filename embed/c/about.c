@@ -21,6 +21,7 @@ const char *gamhilon_status_text(uint32_t status) {
     case GAMHILON_BUFFER_TOO_SMALL: return "the buffer is too small for the answer";
     case GAMHILON_TOO_DEEP: return "the elements of a layout nest too deep";
     case GAMHILON_TOO_MANY_ELEMENTS: return "a layout has too many elements";
+    case GAMHILON_SESSION_NOT_OPEN: return "the session is not open";
     case GAMHILON_LIMIT_EXCEEDED: return "the style takes more steps or writes more than it may";
     default: return "a status that this version does not know";
     }

@@ -11,9 +11,6 @@ typedef struct {
     size_t length;
 } text;
 
-typedef uint32_t text_call(const uint8_t *, size_t, const uint8_t *, size_t, const uint8_t *, size_t, const uint8_t *, size_t,
-                           const uint8_t *, size_t, uint8_t *, size_t, size_t *);
-
 /* Reads the texts, which free_texts frees; each in a block of just its length. */
 static void read_texts(const char *folder, text *texts) {
     static const char *const names[TEXTS] = {"style.csl", "locales.json", "items.json", "citations.json", "options.json"};
@@ -34,8 +31,13 @@ static void free_texts(text *texts) {
     for (int i = 0; i < TEXTS; i++) free(texts[i].bytes);
 }
 
+#ifndef WITHOUT_CALLS
+typedef uint32_t text_call(const uint8_t *, size_t, const uint8_t *, size_t, const uint8_t *, size_t, const uint8_t *, size_t,
+                           const uint8_t *, size_t, uint8_t *, size_t, size_t *);
+
 /* One call on the texts. */
 static uint32_t call_texts(text_call *f, const text *texts, uint8_t *buffer, size_t buffer_length, size_t *length) {
     return f(texts[0].bytes, texts[0].length, texts[1].bytes, texts[1].length, texts[2].bytes, texts[2].length,
              texts[3].bytes, texts[3].length, texts[4].bytes, texts[4].length, buffer, buffer_length, length);
 }
+#endif

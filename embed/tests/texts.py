@@ -216,3 +216,28 @@ SMALL = [texts(citations=[[{'id': 'b', 'locator': '4', 'size': 1}]], items=ITEMS
 CALLED = [f'<text macro="m{it}" quotes="true" display="block"/>' for it in range(1, 998)] + [TITLE]
 DEEP = [texts(style_of('<group display="block">' * 252 + TITLE + '</group>' * 252)),
         texts(style_of('<text macro="m0"/>', CALLED)), texts(items='[' * 126 + ']' * 126)]
+
+# A document that is edited by tests/sessions.c.
+
+SESSION = texts(
+    HEAD.replace('"note"', '"in-text"') % ('', '')
+    + '<citation><layout prefix="(" suffix=")"><group delimiter=" "><names variable="author"/>'
+    '<date variable="issued"><date-part name="year"/></date></group></layout></citation>\n'
+    '<bibliography><layout><text variable="title"/></layout></bibliography>\n</style>\n',
+    [{'id': 'd', 'type': 'book', 'title': 'T', 'titel': 'U', 'author': [{'family': 'Doe'}],
+      'issued': {'date-parts': [[1999]]}}],
+    [{'citationID': 'a', 'citationItems': [{'id': 'd'}]}])
+SESSION_STATUSES = [11, 11, 2, 11, *[0] * 7, 2, *[0] * 8]
+"""The statuses of the calls: those before a session is open, and the answer that cites no item,
+end with others than 0."""
+ALL = {'bibliography': {'changed': [{'id': 'd', 'text': 'T'}], 'gone': [], 'ids': ['d']},
+       'citations': {'changed': [{'key': 'a', 'text': '(Doe 1999)'}], 'gone': [], 'keys': ['a']}}
+NOTHING = {'bibliography': {'changed': [], 'gone': []}, 'citations': {'changed': [], 'gone': []}}
+SESSION_TEXTS = [
+    'style:', ALL, NOTHING, 'citations: /0/',
+    {'bibliography': {'changed': [], 'gone': ['d'], 'ids': []},
+     'citations': {'changed': [], 'gone': ['a'], 'keys': []}},
+    ALL,
+    {'warnings': [{'file': 'items', 'message': 'unknown key, left out; is it `title`?',
+                   'pointer': '/0/titel'}]}]
+"""The texts that are handed out: values of JSON, or what a message begins with."""

@@ -1,5 +1,5 @@
-"""run.py TEST_SESSIONS [--sequences N] [--seed S]: tries sessions, by the built program of
-crates/test_sessions. Prints what fails, and last 'N passed, M failed'.
+"""run.py PROGRAM [--sequences N] [--seed S]: tries sessions, by the built program of
+crates/test_sessions, or by `gamhilon session`. Prints what fails, and last 'N passed, M failed'.
 
 Documents are edited at random; after each edit the answer of a session, applied to what was there,
 is what a session gives that is told the whole document anew. Edits by hand have answers that were
@@ -8,6 +8,7 @@ import argparse
 import glob
 import json
 import os
+import subprocess
 import sys
 import tempfile
 
@@ -38,11 +39,93 @@ def line(word, value):
 
 def answers(program, lines):
     """What a session says to lines, each as JSON; a line that asks for nothing gets `{}`."""
-    status, out, error = ended([program], b''.join(lines), SECONDS)
+    is_product = speaks_json(program)
+    words = [program, 'session'] if is_product else [program]
+    status, out, error = ended(words, b''.join(map(json_line, lines) if is_product else lines), SECONDS)
     said = out.decode().split('\n')[:-1]
     if status != 0 or len(said) != len(lines):
         raise Failed('status %d, %d lines for %d, %s' % (status, len(said), len(lines), error.decode()[-300:]))
-    return [json.loads(it) for it in said]
+    values = [json.loads(it) for it in said]
+    return [said_of(it) for it in values] if is_product else values
+
+
+# The lines of `gamhilon session`
+
+
+def speaks_json(program):
+    return os.path.basename(program) == 'gamhilon'
+
+
+def json_line(words):
+    """A line of test_sessions, as `gamhilon session` takes it."""
+    word, _, argument = words.decode()[:-1].partition(' ')
+    if word not in ('open', 'style'):
+        return ('{"%s": %s}\n' % (word, argument or 'true')).encode()
+    path, _, options = argument.partition(' ')
+    with open(path, encoding='utf-8') as file:
+        opening = {'style': file.read(), **({'options': json.loads(options)} if options else {})}
+    return (json.dumps({word: opening}) + '\n').encode()
+
+
+def said_of(answer):
+    """An answer of `gamhilon session`, as test_sessions gives it."""
+    if 'error' in answer:
+        return {'refused': answer['error']}
+    return {} if answer['ok'] is True else answer['ok']
+
+
+def asked_again(program, lines, env):
+    """What `gamhilon session` says to lines of which each is written again where memory is refused. Where
+    the process ends for that, nothing is said."""
+    how = {'stdin': subprocess.PIPE, 'stdout': subprocess.PIPE, 'stderr': subprocess.PIPE}
+    with subprocess.Popen([program, 'session'], env=env, **how) as process:
+        said = []
+        for line_in in map(json_line, lines):
+            answer = b'{"error":"out of memory"}\n'
+            while answer == b'{"error":"out of memory"}\n':
+                try:
+                    process.stdin.write(line_in)
+                    process.stdin.flush()
+                except BrokenPipeError:
+                    pass
+                answer = process.stdout.readline()
+            said.append(answer)
+        try:
+            process.stdin.close()
+        except BrokenPipeError:
+            pass
+        error = process.stderr.read()
+        status = process.wait(SECONDS)
+    return status, b'' if status else b''.join(said), error
+
+
+# What a line that is no object of `gamhilon session` is answered, and that the next one is done.
+WRONG_LINES = {
+    'no JSON': (b'open\n', 'wanted a JSON object with one member'),
+    'an empty line': (b'\n', 'wanted a JSON object with one member'),
+    'a name that there is not': (b'{"close": true}\n', 'unknown member `close`'),
+    'a style that is no text': (b'{"style": {"style": 5}}\n', 'wanted an object with a text as `style`'),
+    'a key that there is not': (b'{"style": {"style": "", "local": []}}\n', 'wanted an object with a text as `style`'),
+    'items that are no JSON': (b'{"items": [}\n', 'items:'),
+    'two members': (b'{"items": [], "answer": true}\n', 'items:'),
+}
+
+
+def try_wrong_line(program, wrong, part):
+    begun = b''.join(map(json_line, ONE))
+    status, out, error = ended([program, 'session'], begun + wrong + b'{"answer": 1}\n', SECONDS)
+    *_, said, answer = [json.loads(it) for it in out.decode().splitlines()]
+    if status != 0 or part not in said.get('error', '') or answer['ok']['citations'] != {'changed': [], 'gone': []}:
+        raise Failed('status %d, %r, %r, %r' % (status, said, answer, error))
+
+
+def try_no_session(program):
+    """Before a session is open, each line but one that opens one is refused."""
+    lines = [b'{"answer": true}\n', b'{"items": []}\n', b'{"open": {}}\n']
+    status, out, _ = ended([program, 'session'], b''.join(lines), SECONDS)
+    said = [json.loads(it)['error'] for it in out.decode().splitlines()]
+    if status != 0 or said[:2] != 2 * ['no session is open'] or len(said) != 3:
+        raise Failed('status %d, %r' % (status, said))
 
 
 # A document that is kept up to date
@@ -274,7 +357,9 @@ def try_memory(program):
                  line('citations', [cited('x', 'd')]), line('answer', ''), line('citations', [cited('x', 'd'), cited('y', 'e')]),
                  line('answer', ''), line('remove', ['e']), line('items', [work('e', 'Roe', 1999)]), line('answer', ''),
                  line('style', style), line('whole', '')]
-        refused, _ = refused_in_turn(lambda env: ended([program], b''.join(lines), SECONDS, env=env))
+        run = asked_again if speaks_json(program) else \
+            lambda program, lines, env: ended([program], b''.join(lines), SECONDS, env=env)
+        refused, _ = refused_in_turn(lambda env: run(program, lines, env))
     print('%d growths of memory were refused' % refused)
 
 
@@ -288,6 +373,9 @@ def main():
              ('json', try_json), ('memory', try_memory)]
     tests += [(name, try_case, *it) for name, it in CASES.items()]
     tests += [(name, try_refused, *it) for name, it in REFUSED.items()]
+    if speaks_json(options.program):
+        tests += [(name, try_wrong_line, *it) for name, it in WRONG_LINES.items()]
+        tests += [('before a session is open', try_no_session)]
     return count(tests, os.path.abspath(options.program))
 
 

@@ -17,6 +17,8 @@ pub enum Command {
     Styles(Option<String>),
     /// The style sheet of pages is printed.
     StyleSheet,
+    /// A session does what the lines of the standard input say.
+    Session,
 }
 
 /// The form of what is written.

@@ -1,5 +1,7 @@
 //! The command line, as a value of the crate `clap`.
-use crate::usage::{ABOUT, DOCUMENT_NOTES, PROGRAM_NOTES, STYLES_NOTES, VERSION, WRITING_NOTES};
+use crate::usage::{
+    ABOUT, DOCUMENT_NOTES, PROGRAM_NOTES, SESSION_NOTES, STYLES_NOTES, VERSION, WRITING_NOTES,
+};
 use clap::builder::ValueParser;
 use clap::{Arg, ArgAction, Command};
 use std::alloc::{AllocError, Global};
@@ -28,6 +30,7 @@ fn named<'a>(alloc: Global) -> Result<Command<'a>, AllocError> {
 enum Verb {
     Cite,
     Bibliography,
+    Session,
     Render,
     Check,
     Styles,
@@ -38,6 +41,7 @@ enum Verb {
 const VERBS: &[Verb] = &[
     Verb::Cite,
     Verb::Bibliography,
+    Verb::Session,
     Verb::Render,
     Verb::Check,
     Verb::Styles,
@@ -56,6 +60,7 @@ fn command<'a>(alloc: Global, verb: Verb) -> Result<Command<'a>, AllocError> {
     match verb {
         Verb::Cite => cite(alloc),
         Verb::Bibliography => bibliography(alloc),
+        Verb::Session => session(alloc),
         Verb::Render => render(alloc),
         Verb::Check => check(alloc),
         Verb::Styles => styles(alloc),
@@ -178,6 +183,15 @@ fn citations<'a>(alloc: Global) -> Arg<'a> {
 }
 
 // ---- other commands
+
+fn session<'a>(alloc: Global) -> Result<Command<'a>, AllocError> {
+    let about = "Answers a document that is edited, a JSON object a line in and one out";
+    Ok(
+        Command::new(alloc, "session")
+            .about(about)
+            .after_help(SESSION_NOTES),
+    )
+}
 
 fn render<'a>(alloc: Global) -> Result<Command<'a>, AllocError> {
     let words = Vec::from_array(alloc, document(alloc))?;

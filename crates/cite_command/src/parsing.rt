@@ -71,6 +71,7 @@ fn command_in(alloc: Global, matches: &ArgMatches<'_>) -> Result<Command, Comman
         "render" => render_in(alloc, words),
         "styles" => styles_in(alloc, words),
         "css" => Ok(Command::StyleSheet),
+        "session" => Ok(Command::Session),
         "cite" => Ok(Command::Cite(cite_options(alloc, words)?)),
         _ => Ok(Command::Bibliography(options_in(alloc, words)?)),
     }

@@ -42,6 +42,29 @@ Example: the answer to document.json as JSON,
 
   gamhilon render --to json document.json";
 
+/// What the help of the command of sessions ends with.
+pub(crate) const SESSION_NOTES: &str = "\
+Each line of the standard input is an object with one member:
+
+  {\"open\": {\"style\": TEXT, \"locales\": [TEXT, ..], \"options\": {..}}}
+  {\"style\": {..}}           another style, as in open
+  {\"items\": [..]}           CSL-JSON; each is new, or stands in place of the one with its id
+  {\"remove\": [ID, ..]}
+  {\"citations\": [..]}       all citations, as they stand
+  {\"answer\": true}          what changed since the last answer
+  {\"whole\": true}           all that there is
+  {\"warnings\": true}        what is odd
+
+The line that answers it is {\"ok\": ..}, or {\"error\": TEXT}, where the session is as it was. It is
+written at once.
+
+Example: with the references of books.json, a list, in a style that is built in,
+
+  (jq -cn --arg style \"$(gamhilon styles author-date)\" '{open: {style: $style}}'
+   jq -c '{items: .}' books.json
+   echo '{\"citations\": [[{\"id\": \"smith2020\"}]]}'
+   echo '{\"answer\": true}') | gamhilon session";
+
 /// What the help of the command of styles ends with.
 pub(crate) const STYLES_NOTES: &str = "\
 Example: a style of one's own begins as a copy,

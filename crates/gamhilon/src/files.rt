@@ -71,7 +71,16 @@ pub(crate) fn bytes_of(
     }
 }
 
-fn unreadable(alloc: Global, path: &str, error: &io::Error) -> Result<CommandError, AllocError> {
+/// The error of a file that can't be read.
+///
+/// # Errors
+///
+/// Where memory is refused.
+pub(crate) fn unreadable(
+    alloc: Global,
+    path: &str,
+    error: &io::Error,
+) -> Result<CommandError, AllocError> {
     if error.kind() == io::ErrorKind::OutOfMemory {
         return Ok(CommandError::OutOfMemory);
     }

@@ -21,6 +21,7 @@ mod page;
 mod printing;
 mod references;
 mod reports;
+mod sessions;
 mod styles;
 mod unknown_ids;
 
@@ -53,6 +54,7 @@ fn run(
         Command::Cite(options) => commands::cite(rt, &options)?,
         Command::Bibliography(options) => commands::bibliography(rt, &options)?,
         Command::Render(options) => documents::render(rt, &options)?,
+        Command::Session => sessions::answer_lines(rt)?,
         Command::StyleSheet => print!(rt; "{STYLE_SHEET}")?,
         Command::Styles(name) => packaged::show(rt, name.as_deref())?,
     }

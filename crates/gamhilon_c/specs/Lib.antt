@@ -4,3 +4,4 @@ pub mod FindsFault
 pub mod KeepsLimits
 pub mod CalledDriven
 pub mod OfTexts
+pub mod OfSessions

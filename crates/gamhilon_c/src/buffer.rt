@@ -8,7 +8,7 @@ use cite_document::error::RunError;
 pub(crate) const ANSWERED: u32 = 0;
 
 /// The text is longer than the buffer.
-const BUFFER_TOO_SMALL: u32 = 6;
+pub(crate) const BUFFER_TOO_SMALL: u32 = 6;
 
 /// Puts the text at the beginning of the buffer, if the buffer is as long, and gives its length.
 pub(crate) fn place(text: &[u8], buffer: &mut [u8], needed: &mut usize) -> u32

@@ -1,11 +1,12 @@
 //! Documents answered for callers in C, and for whatever calls C.
 //!
 //! Each call stands alone: it is given a document, or texts, and a buffer for what it has to say,
-//! and keeps nothing.
+//! and keeps nothing. A session alone is kept by its caller from one call to the next (`sessions`).
 #![tactic(auto)]
 
 mod buffer;
 mod ring;
+mod sessions;
 mod texts;
 
 ghost use Rattle.json_document.specs.Form.{form, value_in};

@@ -8,12 +8,15 @@
 //! }
 //! ```
 //!
-//! `cite` writes citations by a style file, from texts.
+//! `cite` writes citations by a style file, from texts. A `Session` keeps a document that is edited,
+//! and answers by what changed.
 mod findings;
 mod refusal;
+mod session;
 mod texts;
 
 pub use refusal::{Fault, Refusal, Ring};
+pub use session::{Session, SessionError, SessionTexts};
 pub use texts::{
     cite, find_cite_fault, CiteError, Findings, TextFault, TextPlace, TextRemark, Texts,
 };

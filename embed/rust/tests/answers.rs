@@ -149,3 +149,26 @@ fn a_style_that_takes_too_much_has_its_place() {
         other => panic!("{other:?}"),
     }
 }
+
+#[test]
+fn a_session_answers_by_what_changed() -> Result<(), Box<dyn Error>> {
+    let style = include_bytes!("../../../examples/styles/author-date.csl");
+    let texts = gamhilon::SessionTexts { style, ..Default::default() };
+    let mut session = gamhilon::Session::open(&texts)?;
+    session.put_items(
+        br#"[{"id": "doe", "type": "book", "title": "T", "author": [{"family": "Doe"}],
+              "issued": {"date-parts": [[1999]]}}]"#,
+    )?;
+    session.set_citations(br#"[{"citationID": "a", "citationItems": [{"id": "doe"}]}]"#)?;
+    assert!(session.answer()?.contains(r#"[{"key":"a","text":"(Doe 1999)"}]"#));
+    assert!(session.answer()?.ends_with(r#""citations":{"changed":[],"gone":[]}}"#));
+    session.set_citations(br#"[[{"id": "nobody"}]]"#)?;
+    let error = session.answer().unwrap_err();
+    assert!(matches!(&error, gamhilon::SessionError::Fault(it) if it.contains("`nobody`")));
+    session.set_citations(b"[]")?;
+    assert!(session.whole()?.ends_with(r#""citations":{"changed":[],"gone":[],"keys":[]}}"#));
+    assert_eq!(session.warnings()?, r#"{"warnings":[]}"#);
+    session.remove_items(br#"["doe"]"#)?;
+    assert!(session.set_style(&gamhilon::SessionTexts::default()).is_err());
+    Ok(())
+}

@@ -10,6 +10,7 @@ What is there:
 
 - `csl.render` writes citations and a bibliography in a style: a published one, one of the package
   (`styles`), or one of a file. `cite` is the same from texts alone.
+- `Session` keeps a document that is edited, and says what changed (`sessions`).
 - `parse_citations` and `find_citations` read citations in pandoc's notation, `[see @doe99, p. 3]`;
   `markdown_pages` writes those of whole pages of Markdown, `latex_documents` those of LaTeX.
 - `references.load` reads the files of reference managers: CSL-JSON, BibLaTeX, BibTeX, hayagriva.
@@ -26,7 +27,7 @@ from __future__ import annotations
 import json
 from typing import Any, Dict, List, Mapping, Optional, Sequence, Union
 
-from . import csl, csl_json, latex_documents, markdown_pages, references, styles
+from . import csl, csl_json, latex_documents, markdown_pages, references, sessions, styles
 from ._citing import Json, cite_texts, texts_of
 from ._deprecated import deprecated
 from ._driving import Missing, State, Task, Writer, Written, drive_bytes, render_with_all
@@ -42,20 +43,21 @@ from .errors import (DocumentRefused, GamhilonError, LibraryFailed, LibraryMissi
 from .html_writer import bibliography_to_html, style_sheet, to_html
 from .latex_writer import bibliography_to_latex, to_latex
 from .markdown_writer import bibliography_to_markdown, to_markdown
+from .sessions import Session
 from .texts import TextFault, TextWarning
 
 __all__ = [
     'Answer', 'Bibliography', 'Citation', 'CitationTextRefused', 'Document', 'DocumentRefused',
     'GamhilonError', 'Item', 'LibraryFailed', 'LibraryMissing', 'LimitExceeded', 'Limits',
     'LimitsRefused', 'MacroRing', 'Missing', 'Node', 'NumberOverflow', 'OutOfMemory', 'Refused',
-    'State', 'StyleLimitExceeded', 'Task', 'TextCitation', 'TextFault', 'TextRefused',
+    'Session', 'State', 'StyleLimitExceeded', 'Task', 'TextCitation', 'TextFault', 'TextRefused',
     'TextWarning', 'TooDeep', 'TooManyElements', 'Tree', 'Version', 'Writer', 'Written',
     '__version__',
     'bibliography_to_html', 'bibliography_to_latex', 'bibliography_to_markdown', 'check', 'cite',
     'csl', 'csl_json', 'drive_once', 'find_citations', 'latex_documents', 'markdown_pages',
     'parse_citations', 'plain', 'print_document', 'print_json', 'references', 'render',
-    'render_document', 'render_with', 'style_sheet', 'styles', 'to_html', 'to_latex', 'to_markdown',
-    'version',
+    'render_document', 'render_with', 'sessions', 'style_sheet', 'styles', 'to_html', 'to_latex',
+    'to_markdown', 'version',
 ]
 
 Document = Union[Dict[str, Any], str, bytes]

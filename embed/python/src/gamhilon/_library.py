@@ -11,6 +11,7 @@ import os
 from typing import Any, Callable, List, NamedTuple, Optional, Tuple
 
 from . import _faults
+from ._library_session import LibrarySession, declare
 from ._limits import Limits
 from .errors import (DocumentRefused, LibraryFailed, LibraryMissing, MacroRing, NumberOverflow,
                      OutOfMemory, StyleLimitExceeded, TooDeep, TooManyElements)
@@ -96,6 +97,12 @@ class Library:
         if status != OK:
             raise self._refusal(status, b'')
         return text
+
+    def session(self) -> LibrarySession:
+        """A session, which isn't open yet. Raises LibraryMissing where the library is older than
+        sessions."""
+        self._newer('gamhilon_session_open')
+        return LibrarySession(self._newer, _filled)
 
     def check(self, document: bytes) -> None:
         """Raises what `render` would raise, and gives nothing where there is an answer."""
@@ -219,6 +226,7 @@ def _loaded() -> ctypes.CDLL:
     for function in limits:
         function.restype = ctypes.c_uint32
         function.argtypes = [*given, ctypes.c_size_t, ctypes.c_size_t]
+    declare(library)
     return library
 
 

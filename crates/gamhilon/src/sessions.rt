@@ -1,0 +1,22 @@
+//! A session does what lines say.
+use crate::error::CommandError;
+use crate::files::unreadable;
+use session_lines::lines::LineSession;
+
+/// Answers each line of the standard input by a line.
+///
+/// # Errors
+///
+/// `Unreadable`; `Output`; `OutOfMemory`.
+pub(crate) fn answer_lines(rt: &(impl Input + Print + AllocGlobal)) -> Result<(), CommandError> {
+    let mut session = LineSession::new();
+    for line in rt.lines(rt.alloc()) {
+        let line = match line {
+            Ok(line) => line,
+            Err(error) => return Err(unreadable(rt.alloc(), "-", &error)?),
+        };
+        let answer = session.answer_line(rt.alloc(), line.as_str())?;
+        println!(rt; "{answer}")?;
+    }
+    Ok(())
+}
