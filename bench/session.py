@@ -3,7 +3,7 @@
 
     bench/session.py [--program PATH] [--style FILE] [--items N] [--citations N] [--edits N]
 
-A session of the built test_sessions has a library of --items works and --citations citations of
+A session of the built program (`gamhilon session`) has a library of --items works and --citations citations of
 them in a style, apa where this machine has it. Prints the processor time, without that of the
 system, of opening it with its first answer; and of each of --edits edits with its answer, in the
 mean: a locator that changes, a citation that is put in the middle, a work that changes, and a
@@ -31,8 +31,8 @@ def citation(n, **more):
     return {'citationID': f'c{n}', 'citationItems': [{'id': f'w{n * 7 % 20000}', **more}, {'id': f'w{n * 3 % 20000}'}]}
 
 
-def line(word, value):
-    return f'{word} {value if isinstance(value, str) else json.dumps(value)}\n'.encode()
+def line(word, value=True):
+    return f'{json.dumps({word: value})}\n'.encode()
 
 
 def measured(program, lines):
@@ -40,7 +40,7 @@ def measured(program, lines):
     with tempfile.TemporaryFile() as given:
         given.write(b''.join(lines))
         given.seek(0)
-        process = subprocess.Popen([program], stdin=given, stdout=subprocess.DEVNULL)
+        process = subprocess.Popen([program, 'session'], stdin=given, stdout=subprocess.DEVNULL)
         _, status, used = os.wait4(process.pid, 0)
         process.returncode = os.waitstatus_to_exitcode(status)
         if status:
@@ -63,23 +63,24 @@ def edited(kind, citations, edits):
             yield line('items', [{**work(7 * middle % 20000), 'title': f'Another title {number}'}])
         else:
             yield line('citations', [citation(number)])
-        yield line('answer', '')
+        yield line('answer')
 
 
 def main():
     words = argparse.ArgumentParser()
-    words.add_argument('--program', default=str(ROOT / 'crates/test_sessions/out/test_sessions'))
+    words.add_argument('--program', default=str(ROOT / 'crates/gamhilon/out/gamhilon'))
     words.add_argument('--style', default=APA if os.path.exists(APA) else OWN)
     words.add_argument('--items', type=int, default=20000)
     words.add_argument('--citations', type=int, default=1000)
     words.add_argument('--edits', type=int, default=50)
     words = words.parse_args()
     citations = [citation(n) for n in range(words.citations)]
-    begun = [line('open', words.style), line('items', [work(n) for n in range(words.items)]),
-             line('citations', citations), line('answer', '')]
+    style = pathlib.Path(words.style).read_text(encoding='utf-8')
+    begun = [line('open', {'style': style}), line('items', [work(n) for n in range(words.items)]),
+             line('citations', citations), line('answer')]
     opened, memory = measured(words.program, begun)
     print(f'opened, and the first answer: {opened:.0f} ms, {memory:.0f} MB')
-    answered, _ = measured(words.program, begun + [line('whole', '')] * 10)
+    answered, _ = measured(words.program, begun + [line('whole')] * 10)
     print(f'all that was written, once more: {(answered - opened) / 10:.1f} ms')
     for kind in ('a locator changes', 'a citation comes and goes', 'a work changes', 'two cites of the library'):
         lines = list(edited(kind, citations, words.edits))

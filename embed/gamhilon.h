@@ -143,8 +143,10 @@ uint32_t gamhilon_render_json(const uint8_t *document, size_t document_length,
  * - `options`: a JSON object of `locale`, a language tag that stands in place of the style's;
  *   `nocite`: where it is true, items that aren't cited are listed too; `abbreviations`, short
  *   forms of texts (docs/STYLE_FILES.md); `limits`, an object of `steps` and `bytes` ("Documents
- *   from others", below); and `form`: `text`, `html`, `markdown`, `latex`, or `json`, which is the
- *   usual one. Other keys are refused. An empty text is an empty object.
+ *   from others", below); `draft`: where it is true, a cite of an item that isn't there is its id in
+ *   bold letters, and an item with a fault is left out, each with a warning; and `form`: `text`,
+ *   `html`, `markdown`, `latex`, or `json`, which is the usual one. Other keys are refused. An empty
+ *   text is an empty object.
  *
  * Answers may be longer than the texts: a first buffer of 64 KiB and eight times the length of
  * items and citations together will mostly do.
@@ -243,8 +245,7 @@ typedef struct {
 #define GAMHILON_NO_SESSION {NULL}
 
 /* Opens a session in a style, with no items and no citations, in place of the one that is open, if
- * any. The options are those of gamhilon_cite; `form` is `text`, which is the usual one, `html`,
- * `markdown` or `latex`, and where `draft` is true, a cite of an item that isn't there is no fault.
+ * any. The options are those of gamhilon_cite, but that the usual `form` is `text`.
  *
  * Ends with GAMHILON_OK, GAMHILON_DOCUMENT_REFUSED, GAMHILON_LIMIT_EXCEEDED or
  * GAMHILON_OUT_OF_MEMORY. gamhilon_session_error says what is wrong; close the session then too. */
@@ -290,7 +291,8 @@ uint32_t gamhilon_session_set_citations(gamhilon_session *session, const uint8_t
  *      "citations":{"changed":[{"key":"a","text":"(Doe 1999)"}],"gone":[],"keys":["a"]}}
  *
  * `bibliography` is there where the style has one; `keys` and `ids` where they, or their order, are
- * others than last time.
+ * others than last time. In the form `json`, `citation` and `item` stand in place of `text`, as
+ * docs/ANSWER.md has them, and `bibliography` says how items are laid out.
  *
  * Ends with GAMHILON_OK, GAMHILON_DOCUMENT_REFUSED, GAMHILON_NUMBER_OVERFLOW,
  * GAMHILON_OUT_OF_MEMORY, GAMHILON_BUFFER_TOO_SMALL, GAMHILON_LIMIT_EXCEEDED or

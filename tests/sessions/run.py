@@ -1,5 +1,5 @@
-"""run.py PROGRAM [--sequences N] [--seed S]: tries sessions, by the built program of
-crates/test_sessions, or by `gamhilon session`. Prints what fails, and last 'N passed, M failed'.
+"""run.py GAMHILON [--sequences N] [--seed S]: tries sessions, by the built program's `gamhilon
+session`. Prints what fails, and last 'N passed, M failed'.
 
 Documents are edited at random; after each edit the answer of a session, applied to what was there,
 is what a session gives that is told the whole document anew. Edits by hand have answers that were
@@ -32,43 +32,25 @@ def styles():
     return OWN + [it for it in (PLACES % name for name in PUBLISHED) if os.path.exists(it)]
 
 
-def line(word, value):
-    text = value if isinstance(value, str) else json.dumps(value)
-    return ('%s %s\n' % (word, text)).encode()
+def line(word, value=True):
+    """A line of `gamhilon session`. A style is a path, or a path and options."""
+    if word in ('open', 'style'):
+        path, options = value if isinstance(value, tuple) else (value, {})
+        with open(path, encoding='utf-8') as file:
+            value = {'style': file.read(), 'options': options}
+    return ('%s\n' % json.dumps({word: value})).encode()
 
 
 def answers(program, lines):
-    """What a session says to lines, each as JSON; a line that asks for nothing gets `{}`."""
-    is_product = speaks_json(program)
-    words = [program, 'session'] if is_product else [program]
-    status, out, error = ended(words, b''.join(map(json_line, lines) if is_product else lines), SECONDS)
+    """What a session says to lines: `{}` where nothing was asked for, and an object with `refused`."""
+    status, out, error = ended([program, 'session'], b''.join(lines), SECONDS)
     said = out.decode().split('\n')[:-1]
     if status != 0 or len(said) != len(lines):
         raise Failed('status %d, %d lines for %d, %s' % (status, len(said), len(lines), error.decode()[-300:]))
-    values = [json.loads(it) for it in said]
-    return [said_of(it) for it in values] if is_product else values
-
-
-# The lines of `gamhilon session`
-
-
-def speaks_json(program):
-    return os.path.basename(program) == 'gamhilon'
-
-
-def json_line(words):
-    """A line of test_sessions, as `gamhilon session` takes it."""
-    word, _, argument = words.decode()[:-1].partition(' ')
-    if word not in ('open', 'style'):
-        return ('{"%s": %s}\n' % (word, argument or 'true')).encode()
-    path, _, options = argument.partition(' ')
-    with open(path, encoding='utf-8') as file:
-        opening = {'style': file.read(), **({'options': json.loads(options)} if options else {})}
-    return (json.dumps({word: opening}) + '\n').encode()
+    return [said_of(json.loads(it)) for it in said]
 
 
 def said_of(answer):
-    """An answer of `gamhilon session`, as test_sessions gives it."""
     if 'error' in answer:
         return {'refused': answer['error']}
     return {} if answer['ok'] is True else answer['ok']
@@ -80,7 +62,7 @@ def asked_again(program, lines, env):
     how = {'stdin': subprocess.PIPE, 'stdout': subprocess.PIPE, 'stderr': subprocess.PIPE}
     with subprocess.Popen([program, 'session'], env=env, **how) as process:
         said = []
-        for line_in in map(json_line, lines):
+        for line_in in lines:
             answer = b'{"error":"out of memory"}\n'
             while answer == b'{"error":"out of memory"}\n':
                 try:
@@ -112,8 +94,7 @@ WRONG_LINES = {
 
 
 def try_wrong_line(program, wrong, part):
-    begun = b''.join(map(json_line, ONE))
-    status, out, error = ended([program, 'session'], begun + wrong + b'{"answer": 1}\n', SECONDS)
+    status, out, error = ended([program, 'session'], b''.join(ONE) + wrong + b'{"answer": 1}\n', SECONDS)
     *_, said, answer = [json.loads(it) for it in out.decode().splitlines()]
     if status != 0 or part not in said.get('error', '') or answer['ok']['citations'] != {'changed': [], 'gone': []}:
         raise Failed('status %d, %r, %r, %r' % (status, said, answer, error))
@@ -168,7 +149,7 @@ def of_whole(answer):
 
 def tell_all(state):
     return [line('open', state['style']), line('items', list(state['items'].values())),
-            line('citations', state['citations']), line('answer', '')]
+            line('citations', state['citations']), line('answer')]
 
 
 def try_sequence(program, states):
@@ -176,9 +157,9 @@ def try_sequence(program, states):
     for number, (words, state) in enumerate(states):
         for word, value in words:
             told.append(line('open' if number == 0 and word == 'style' else word, value))
-        told.append(line('answer', ''))
+        told.append(line('answer'))
         anew += tell_all(state)
-    changes = [it for it, asked in zip(answers(program, told), told) if asked.startswith(b'answer')]
+    changes = [it for it, asked in zip(answers(program, told), told) if asked == line('answer')]
     wholes = answers(program, anew)[3::4]
     kept = Kept()
     for number, (change, whole) in enumerate(zip(changes, wholes)):
@@ -215,50 +196,50 @@ def cited(key, *ids, **properties):
 
 
 ONE = [line('open', AUTHOR_DATE), line('items', [work('d', 'Doe', 1999), work('e', 'Doe', 1999, 'U'), work('r', 'Roe', 2000)]),
-       line('citations', [cited('x', 'd'), cited('y', 'r')]), line('answer', '')]
+       line('citations', [cited('x', 'd'), cited('y', 'r')]), line('answer')]
 
 # Lines behind those of ONE, and what the last of them is answered in `citations`: texts that changed,
 # keys that are gone, and the keys where they are others.
 CASES = {
     'the first answer has all': ([], {'x': '(Doe 1999)', 'y': '(Roe 2000)'}, [], ['x', 'y']),
-    'nothing changed': ([line('answer', '')], {}, [], None),
+    'nothing changed': ([line('answer')], {}, [], None),
     "a suffix that another's edit gives": (
-        [line('citations', [cited('x', 'd'), cited('y', 'r', 'e')]), line('answer', '')],
+        [line('citations', [cited('x', 'd'), cited('y', 'r', 'e')]), line('answer')],
         {'x': '(Doe 1999a)', 'y': '(Doe 1999b; Roe 2000)'}, [], None),
     'a suffix that goes with a citation': (
-        [line('citations', [cited('x', 'd'), cited('z', 'e')]), line('answer', ''),
-         line('citations', [cited('x', 'd')]), line('answer', '')],
+        [line('citations', [cited('x', 'd'), cited('z', 'e')]), line('answer'),
+         line('citations', [cited('x', 'd')]), line('answer')],
         {'x': '(Doe 1999)'}, ['z'], ['x']),
     'an item that changed': (
-        [line('items', [work('r', 'Roe', 2001)]), line('answer', '')], {'y': '(Roe 2001)'}, [], None),
+        [line('items', [work('r', 'Roe', 2001)]), line('answer')], {'y': '(Roe 2001)'}, [], None),
     'an item that changed twice, and is what it was': (
-        [line('items', [work('r', 'Roe', 2001)]), line('items', [work('r', 'Roe', 2000)]), line('answer', '')],
+        [line('items', [work('r', 'Roe', 2001)]), line('items', [work('r', 'Roe', 2000)]), line('answer')],
         {}, [], None),
     'citations in another order': (
-        [line('citations', [cited('y', 'r'), cited('x', 'd')]), line('answer', '')], {}, [], ['y', 'x']),
+        [line('citations', [cited('y', 'r'), cited('x', 'd')]), line('answer')], {}, [], ['y', 'x']),
     'a citation that is put in front': (
-        [line('citations', [cited('w', 'r'), cited('x', 'd'), cited('y', 'r')]), line('answer', '')],
+        [line('citations', [cited('w', 'r'), cited('x', 'd'), cited('y', 'r')]), line('answer')],
         {'w': '(Roe 2000)'}, [], ['w', 'x', 'y']),
     'a key that is used for another citation': (
-        [line('citations', [cited('x', 'r'), cited('y', 'r')]), line('answer', '')], {'x': '(Roe 2000)'}, [], None),
-    'another style': ([line('style', NUMERIC), line('answer', '')], {'x': '[1]', 'y': '[2]'}, [], None),
+        [line('citations', [cited('x', 'r'), cited('y', 'r')]), line('answer')], {'x': '(Roe 2000)'}, [], None),
+    'another style': ([line('style', NUMERIC), line('answer')], {'x': '[1]', 'y': '[2]'}, [], None),
     'numbers that an edit moves': (
-        [line('style', NUMERIC), line('answer', ''),
-         line('citations', [cited('w', 'e'), cited('x', 'd'), cited('y', 'r')]), line('answer', '')],
+        [line('style', NUMERIC), line('answer'),
+         line('citations', [cited('w', 'e'), cited('x', 'd'), cited('y', 'r')]), line('answer')],
         {'w': '[1]', 'x': '[2]', 'y': '[3]'}, [], ['w', 'x', 'y']),
     'citations without a key have their places': (
-        [line('citations', [[{'id': 'd'}], [{'id': 'r'}]]), line('answer', '')],
+        [line('citations', [[{'id': 'd'}], [{'id': 'r'}]]), line('answer')],
         {'0': '(Doe 1999)', '1': '(Roe 2000)'}, ['x', 'y'], ['0', '1']),
-    'no citation': ([line('citations', []), line('answer', '')], {}, ['x', 'y'], []),
+    'no citation': ([line('citations', []), line('answer')], {}, ['x', 'y'], []),
     'a citation that was refused is forgotten': (
-        [line('citations', [cited('x', 'd'), cited('x', 'r')]), line('answer', '')], {}, [], None),
+        [line('citations', [cited('x', 'd'), cited('x', 'r')]), line('answer')], {}, [], None),
     'items that were refused are forgotten': (
-        [line('items', [work('r', 'Roe', 2001), {'title': 'without an id'}]), line('answer', '')], {}, [], None),
-    'a style that was refused is forgotten': ([line('style', os.devnull), line('answer', '')], {}, [], None),
+        [line('items', [work('r', 'Roe', 2001), {'title': 'without an id'}]), line('answer')], {}, [], None),
+    'a style that was refused is forgotten': ([line('style', os.devnull), line('answer')], {}, [], None),
     'an item that is removed and put again': (
-        [line('remove', ['r']), line('items', [work('r', 'Poe', 2000)]), line('answer', '')],
+        [line('remove', ['r']), line('items', [work('r', 'Poe', 2000)]), line('answer')],
         {'y': '(Poe 2000)'}, [], None),
-    'all of it again': ([line('whole', '')], {'x': '(Doe 1999)', 'y': '(Roe 2000)'}, [], ['x', 'y']),
+    'all of it again': ([line('whole')], {'x': '(Doe 1999)', 'y': '(Roe 2000)'}, [], ['x', 'y']),
 }
 
 
@@ -272,8 +253,8 @@ def try_case(program, told, changed, gone, keys):
 # Lines behind those of ONE whose last one is refused, and a part of what is said of it.
 REFUSED = {
     'a key twice': ([line('citations', [cited('x', 'd'), cited('x', 'r')])], '/1'),
-    'an item that is not there': ([line('citations', [cited('x', 'nobody')]), line('answer', '')], 'nobody'),
-    'an item that was removed': ([line('remove', ['r']), line('answer', '')], '`r`'),
+    'an item that is not there': ([line('citations', [cited('x', 'nobody')]), line('answer')], 'nobody'),
+    'an item that was removed': ([line('remove', ['r']), line('answer')], '`r`'),
     'no list of ids': ([line('remove', {'id': 'r'})], ''),
 }
 
@@ -286,8 +267,8 @@ def try_refused(program, told, part):
 
 def try_list(program):
     """The list names the items that changed, the new ones, those that are gone, and its order."""
-    told = ONE + [line('items', [work('r', 'Adams', 2000)]), line('answer', ''),
-                  line('citations', [cited('x', 'e')]), line('answer', '')]
+    told = ONE + [line('items', [work('r', 'Adams', 2000)]), line('answer'),
+                  line('citations', [cited('x', 'e')]), line('answer')]
     first, second, third = (it['bibliography'] for it in answers(program, told) if 'bibliography' in it)
     got = [([it['id'] for it in part['changed']], part['gone'], part.get('ids')) for part in (first, second, third)]
     wanted = [(['d', 'r'], [], ['d', 'r']), (['r'], [], ['r', 'd']), (['e'], ['r', 'd'], ['e'])]
@@ -295,14 +276,14 @@ def try_list(program):
         raise Failed('%r, wanted %r' % (got, wanted))
 
 
-DRAFT = [line('open', AUTHOR_DATE + ' {"draft": true, "form": "markdown"}'), line('items', [work('knuth1984', 'Knuth', 1984)])]
+DRAFT = [line('open', (AUTHOR_DATE, {'draft': True, 'form': 'markdown'})), line('items', [work('knuth1984', 'Knuth', 1984)])]
 
 
 def try_draft(program):
     """A cite of an item that isn't there is its id, as pandoc has it, and is warned of with the nearest
     id."""
-    told = DRAFT + [line('citations', [cited('x', 'knuth1948'), cited('y', 'knuth1984', 'knuth1948')]), line('answer', ''),
-                    line('warnings', '')]
+    told = DRAFT + [line('citations', [cited('x', 'knuth1948'), cited('y', 'knuth1984', 'knuth1948')]), line('answer'),
+                    line('warnings')]
     *_, answer, warnings = answers(program, told)
     got = {it['key']: it['text'] for it in answer['citations']['changed']}
     if got != {'x': '(**knuth1948?**)', 'y': '(Knuth 1984; **knuth1948?**)'}:
@@ -324,8 +305,8 @@ def plain(tree):
 
 def try_json(program):
     """As JSON, a session gives trees, whose plain texts are its texts, and how items are laid out."""
-    told = [line('style', AUTHOR_DATE + ' {"form": "json"}'), line('answer', ''),
-            line('items', [work('r', 'Roe', 2001)]), line('answer', '')]
+    told = [line('style', (AUTHOR_DATE, {'form': 'json'})), line('answer'),
+            line('items', [work('r', 'Roe', 2001)]), line('answer')]
     first, second = [it for it in answers(program, ONE + told) if 'citations' in it][1:]
     got = [{it['key']: plain(it['citation']['content']) for it in answer['citations']['changed']} for answer in (first, second)]
     if got != [{'x': '(Doe 1999)', 'y': '(Roe 2000)'}, {'y': '(Roe 2001)'}]:
@@ -354,12 +335,10 @@ def try_memory(program):
         with open(style, 'w') as file:
             file.write(STYLE)
         lines = [line('open', style), line('items', [work('d', 'Doe', 1999), work('e', 'Doe', 1999)]),
-                 line('citations', [cited('x', 'd')]), line('answer', ''), line('citations', [cited('x', 'd'), cited('y', 'e')]),
-                 line('answer', ''), line('remove', ['e']), line('items', [work('e', 'Roe', 1999)]), line('answer', ''),
-                 line('style', style), line('whole', '')]
-        run = asked_again if speaks_json(program) else \
-            lambda program, lines, env: ended([program], b''.join(lines), SECONDS, env=env)
-        refused, _ = refused_in_turn(lambda env: run(program, lines, env))
+                 line('citations', [cited('x', 'd')]), line('answer'), line('citations', [cited('x', 'd'), cited('y', 'e')]),
+                 line('answer'), line('remove', ['e']), line('items', [work('e', 'Roe', 1999)]), line('answer'),
+                 line('style', style), line('whole')]
+        refused, _ = refused_in_turn(lambda env: asked_again(program, lines, env))
     print('%d growths of memory were refused' % refused)
 
 
@@ -373,9 +352,8 @@ def main():
              ('json', try_json), ('memory', try_memory)]
     tests += [(name, try_case, *it) for name, it in CASES.items()]
     tests += [(name, try_refused, *it) for name, it in REFUSED.items()]
-    if speaks_json(options.program):
-        tests += [(name, try_wrong_line, *it) for name, it in WRONG_LINES.items()]
-        tests += [('before a session is open', try_no_session)]
+    tests += [(name, try_wrong_line, *it) for name, it in WRONG_LINES.items()]
+    tests += [('before a session is open', try_no_session)]
     return count(tests, os.path.abspath(options.program))
 
 

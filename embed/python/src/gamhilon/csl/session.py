@@ -80,9 +80,9 @@ class Session:
         >>> then.rendered.citations[1], then.citations, then.items.new
         ('(Roe 2000)', [1], ['roe00'])
 
-    Arguments are those of `render`, and so is what is raised. Each update is written from the
-    beginning by the code of `render`: it gives the same as a call of that. A call that raises
-    leaves the session as it was. A session is used by one thread at a time.
+    Arguments are those of `render`, and so is what is raised. Each update gives what a call of that
+    gives; what didn't change isn't written again. A call that raises leaves the session as it was.
+    A session is used by one thread at a time.
     """
 
     def __init__(self, style: StyleLike, references: ReferencesLike = (), *,
