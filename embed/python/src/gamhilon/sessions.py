@@ -259,9 +259,12 @@ def _error(fault: SessionFault, document: Document) -> Exception:
     if found is None:
         return LibraryFailed(f'the library ended a call on a session with status {fault.status}'
                              f'{fault.message and ": "}{fault.message}')
-    place = {name: value and int(value) for name, value in found.groupdict().items()
-             if name in ('line', 'column')}
-    text = TextFault(found['file'], found['message'], found['pointer'], **place)
+    text = TextFault(found['file'], found['message'], found['pointer'], _number(found['line']),
+                     _number(found['column']))
     if fault.status == LIMIT_EXCEEDED:
         return StyleLimitExceeded(text)
     return document.error(TextRefused(text, []))
+
+
+def _number(digits: Optional[str]) -> Optional[int]:
+    return None if digits is None else int(digits)

@@ -11,6 +11,7 @@ from .._library import library
 from .._library_session import LibrarySession, SessionFault
 from ..answer import Answer, Bibliography, Item
 from ..answer import Citation as WrittenCitation
+from ..errors import LibraryMissing
 from ..texts import TextWarning
 from .cites import Citation
 from .entries import Entry
@@ -32,7 +33,8 @@ class KeptAnswers:
         """The answer to a document, as `Document.anew` gives it; and so is what is raised."""
         try:
             return self._opened(document).answer(document, warns)
-        except SessionFault:
+        except (SessionFault, LibraryMissing):
+            # (a document that is refused, or a library that is older than sessions)
             self.close()
             return document.anew(warns)
 
