@@ -255,7 +255,7 @@ REFUSED = {
     'a key twice': ([line('citations', [cited('x', 'd'), cited('x', 'r')])], '/1'),
     'an item that is not there': ([line('citations', [cited('x', 'nobody')]), line('answer')], 'nobody'),
     'an item that was removed': ([line('remove', ['r']), line('answer')], '`r`'),
-    'no list of ids': ([line('remove', {'id': 'r'})], ''),
+    'no list of ids': ([line('remove', {'id': 'r'})], 'items: wanted a list of ids'),
 }
 
 
@@ -312,7 +312,7 @@ def try_json(program):
     if got != [{'x': '(Doe 1999)', 'y': '(Roe 2000)'}, {'y': '(Roe 2001)'}]:
         raise Failed('%r' % got)
     (item,) = second['bibliography']['changed']
-    if (item['id'], item['item']['key'], plain(item['item']['content'])) != ('r', 'r', 'Roe, Ann. 2001. T.'):
+    if (item['id'], item['item']['key'], plain(item['item']['content'])) != ('r', 'r', 'Roe, A. 2001. T.'):
         raise Failed('%r' % item)
     layout = {name: second['bibliography'].get(name) for name in ('hanging_indent', 'entry_spacing', 'line_spacing')}
     if layout != LAYOUT:

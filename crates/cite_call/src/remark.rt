@@ -9,7 +9,8 @@ pub enum TextPlace {
     Whole,
     /// At this line and this column of it, both from 1.
     Line { line: usize, column: usize },
-    /// At the part of its JSON to which this JSON Pointer (RFC 6901) leads.
+    /// At the part of its JSON to which this JSON Pointer (RFC 6901) leads; an empty one leads to
+    /// the whole.
     Pointer(String),
 }
 
@@ -46,6 +47,7 @@ impl fmt::Display for Remark {
         match &self.place {
             TextPlace::Whole => {}
             TextPlace::Line { line, column } => write!(f, "{line}:{column}:")?,
+            TextPlace::Pointer(pointer) if pointer.is_empty() => {}
             TextPlace::Pointer(pointer) => {
                 f.write_char(' ')?;
                 f.write_str(pointer.as_str())?;
