@@ -1,5 +1,7 @@
 //! The command line, as a value of the crate `clap`.
-use crate::usage::{ABOUT, DOCUMENT_NOTES, PROGRAM_NOTES, STYLES_NOTES, VERSION, WRITING_NOTES};
+use crate::usage::{
+    ABOUT, DOCUMENT_NOTES, ENTRIES_NOTES, PROGRAM_NOTES, STYLES_NOTES, VERSION, WRITING_NOTES,
+};
 use clap::builder::ValueParser;
 use clap::{Arg, ArgAction, Command};
 use std::alloc::{AllocError, Global};
@@ -30,6 +32,7 @@ enum Verb {
     Bibliography,
     Render,
     Check,
+    Entries,
     Styles,
     Css,
 }
@@ -40,6 +43,7 @@ const VERBS: &[Verb] = &[
     Verb::Bibliography,
     Verb::Render,
     Verb::Check,
+    Verb::Entries,
     Verb::Styles,
     Verb::Css,
 ];
@@ -58,6 +62,7 @@ fn command<'a>(alloc: Global, verb: Verb) -> Result<Command<'a>, AllocError> {
         Verb::Bibliography => bibliography(alloc),
         Verb::Render => render(alloc),
         Verb::Check => check(alloc),
+        Verb::Entries => entries(alloc),
         Verb::Styles => styles(alloc),
         Verb::Css => css(alloc),
     }
@@ -95,7 +100,7 @@ fn writing<'a>(
 }
 
 /// The options of a command that writes, and its files.
-fn words<'a>(alloc: Global, citations: Arg<'a>) -> [Arg<'a>; 13] {
+fn words<'a>(alloc: Global, citations: Arg<'a>) -> [Arg<'a>; 14] {
     let formats: &'a [&'a str] = &["text", "html", "markdown", "latex", "json"];
     [
         style(alloc),
@@ -130,6 +135,7 @@ fn words<'a>(alloc: Global, citations: Arg<'a>) -> [Arg<'a>; 13] {
             "most-bytes",
             "How many bytes the style may write for each cite and each item (100000)",
         ),
+        from(alloc),
         more(alloc),
         references(alloc),
         citations,
@@ -152,7 +158,7 @@ fn more<'a>(alloc: Global) -> Arg<'a> {
 fn references<'a>(alloc: Global) -> Arg<'a> {
     Arg::new(alloc, "REFERENCES")
         .required(true)
-        .help("References, in CSL-JSON")
+        .help("References, in CSL-JSON, BibLaTeX, BibTeX or RIS")
 }
 
 fn citations<'a>(alloc: Global) -> Arg<'a> {
@@ -202,6 +208,19 @@ fn check<'a>(alloc: Global) -> Result<Command<'a>, AllocError> {
         .arg(files)
 }
 
+fn entries<'a>(alloc: Global) -> Result<Command<'a>, AllocError> {
+    let files = Arg::new(alloc, "FILE")
+        .required(true)
+        .num_args(1..)
+        .action(ArgAction::Append)
+        .help("References, in CSL-JSON, BibLaTeX, BibTeX or RIS");
+    Command::new(alloc, "entries")
+        .about("Prints references as CSL-JSON, and what was lost of them")
+        .after_help(ENTRIES_NOTES)
+        .arg(from(alloc))?
+        .arg(files)
+}
+
 fn styles<'a>(alloc: Global) -> Result<Command<'a>, AllocError> {
     Command::new(alloc, "styles")
         .about("Prints the names of the styles that are built in, or the file of one")
@@ -220,6 +239,13 @@ fn form<'a>(alloc: Global, formats: &'a [&'a str]) -> Arg<'a> {
     valued(alloc, "to", "FORMAT", "The form of what is written (text)").value_parser(
         ValueParser::Names(formats),
     )
+}
+
+/// The option of the form of references, with the names of the forms.
+fn from<'a>(alloc: Global) -> Arg<'a> {
+    let forms: &'a [&'a str] = &["json", "csljson", "csl-json", "bibtex", "biblatex", "ris"];
+    let help = "The form of references, in place of that of the file's ending or beginning";
+    valued(alloc, "from", "FORM", help).value_parser(ValueParser::Names(forms))
 }
 
 /// An option that sets a limit.
