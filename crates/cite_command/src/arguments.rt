@@ -11,6 +11,8 @@ pub enum Command {
     Cite(Options),
     /// A bibliography is printed.
     Bibliography(Options),
+    /// References are printed as CSL-JSON.
+    Entries(EntriesOptions),
     /// A document of `cite_run` is answered.
     Render(DocumentOptions),
     /// The names of the styles that are built in are printed, or the file of that of this name.
@@ -69,8 +71,18 @@ pub struct Options {
     /// The files of references: the one that is named as a file first, then those of
     /// `--references`.
     pub references: Vec<String>,
+    /// The form of the files of references, where the command line says it.
+    pub from: Option<String>,
     /// The file of citations.
     pub citations: Option<String>,
+}
+
+/// The options of a command that prints references, and its files.
+#[derive(Drop)]
+pub struct EntriesOptions {
+    pub files: Vec<String>,
+    /// Their form, where the command line says it.
+    pub from: Option<String>,
 }
 
 /// The form of the answer to a document.

@@ -1,6 +1,7 @@
 //! The command line, as a value of the crate `clap`.
 use crate::usage::{
-    ABOUT, DOCUMENT_NOTES, PROGRAM_NOTES, SESSION_NOTES, STYLES_NOTES, VERSION, WRITING_NOTES,
+    ABOUT, DOCUMENT_NOTES, ENTRIES_NOTES, PROGRAM_NOTES, SESSION_NOTES, STYLES_NOTES, VERSION,
+    WRITING_NOTES,
 };
 use clap::builder::ValueParser;
 use clap::{Arg, ArgAction, Command};
@@ -33,6 +34,7 @@ enum Verb {
     Session,
     Render,
     Check,
+    Entries,
     Styles,
     Css,
 }
@@ -44,6 +46,7 @@ const VERBS: &[Verb] = &[
     Verb::Session,
     Verb::Render,
     Verb::Check,
+    Verb::Entries,
     Verb::Styles,
     Verb::Css,
 ];
@@ -63,6 +66,7 @@ fn command<'a>(alloc: Global, verb: Verb) -> Result<Command<'a>, AllocError> {
         Verb::Session => session(alloc),
         Verb::Render => render(alloc),
         Verb::Check => check(alloc),
+        Verb::Entries => entries(alloc),
         Verb::Styles => styles(alloc),
         Verb::Css => css(alloc),
     }
@@ -141,7 +145,7 @@ fn form_words<'a>(alloc: Global) -> [Arg<'a>; 4] {
 }
 
 /// What the style may take, and the files of references and citations.
-fn file_words<'a>(alloc: Global, citations: Arg<'a>) -> [Arg<'a>; 5] {
+fn file_words<'a>(alloc: Global, citations: Arg<'a>) -> [Arg<'a>; 6] {
     [
         limit(
             alloc,
@@ -153,6 +157,7 @@ fn file_words<'a>(alloc: Global, citations: Arg<'a>) -> [Arg<'a>; 5] {
             "most-bytes",
             "How many bytes the style may write for each cite and each item (100000)",
         ),
+        from(alloc),
         more(alloc),
         references(alloc),
         citations,
@@ -175,7 +180,7 @@ fn more<'a>(alloc: Global) -> Arg<'a> {
 fn references<'a>(alloc: Global) -> Arg<'a> {
     Arg::new(alloc, "REFERENCES")
         .required(true)
-        .help("References, in CSL-JSON")
+        .help("References, in CSL-JSON, BibLaTeX, BibTeX or RIS")
 }
 
 fn citations<'a>(alloc: Global) -> Arg<'a> {
@@ -234,6 +239,19 @@ fn check<'a>(alloc: Global) -> Result<Command<'a>, AllocError> {
         .arg(files)
 }
 
+fn entries<'a>(alloc: Global) -> Result<Command<'a>, AllocError> {
+    let files = Arg::new(alloc, "FILE")
+        .required(true)
+        .num_args(1..)
+        .action(ArgAction::Append)
+        .help("References, in CSL-JSON, BibLaTeX, BibTeX or RIS");
+    Command::new(alloc, "entries")
+        .about("Prints references as CSL-JSON, and what was lost of them")
+        .after_help(ENTRIES_NOTES)
+        .arg(from(alloc))?
+        .arg(files)
+}
+
 fn styles<'a>(alloc: Global) -> Result<Command<'a>, AllocError> {
     Command::new(alloc, "styles")
         .about("Prints the names of the styles that are built in, or the file of one")
@@ -252,6 +270,13 @@ fn form<'a>(alloc: Global, formats: &'a [&'a str]) -> Arg<'a> {
     valued(alloc, "to", "FORMAT", "The form of what is written (text)").value_parser(
         ValueParser::Names(formats),
     )
+}
+
+/// The option of the form of references, with the names of the forms.
+fn from<'a>(alloc: Global) -> Arg<'a> {
+    let forms: &'a [&'a str] = &["json", "csljson", "csl-json", "bibtex", "biblatex", "ris"];
+    let help = "The form of references, in place of that of the file's ending or beginning";
+    valued(alloc, "from", "FORM", help).value_parser(ValueParser::Names(forms))
 }
 
 /// An option that sets a limit.

@@ -1,5 +1,7 @@
 //! What the words of a command line say.
-use crate::arguments::{Command, DocumentFormat, DocumentOptions, Options, OutputFormat};
+use crate::arguments::{
+    Command, DocumentFormat, DocumentOptions, EntriesOptions, Options, OutputFormat,
+};
 use crate::command_line::program;
 use crate::error::{CommandLineError, UsageError};
 use clap::ArgMatches;
@@ -68,6 +70,7 @@ fn command_in(alloc: Global, matches: &ArgMatches<'_>) -> Result<Command, Comman
     };
     match name {
         "check" => check_in(alloc, words),
+        "entries" => entries_in(alloc, words),
         "render" => render_in(alloc, words),
         "styles" => styles_in(alloc, words),
         "css" => Ok(Command::StyleSheet),
@@ -85,6 +88,17 @@ fn check_in(alloc: Global, words: &ArgMatches<'_>) -> Result<Command, CommandLin
         return Err(CommandLineError::Usage(UsageError::TwoInputs));
     }
     Ok(Command::Check(files))
+}
+
+/// The command `entries`, with its files and their form.
+fn entries_in(alloc: Global, words: &ArgMatches<'_>) -> Result<Command, CommandLineError> {
+    let mut files = Vec::new(alloc);
+    push_texts(alloc, words, "FILE", &mut files)?;
+    if inputs_in(&files) > 1 {
+        return Err(CommandLineError::Usage(UsageError::TwoInputs));
+    }
+    let from = text_at(alloc, words, "from")?;
+    Ok(Command::Entries(EntriesOptions { files, from }))
 }
 
 /// The command `styles`, with the name.
@@ -117,6 +131,7 @@ fn options_in(alloc: Global, words: &ArgMatches<'_>) -> Result<Options, CommandL
         most_steps: words.get_one::<usize>("most-steps"),
         most_bytes: words.get_one::<usize>("most-bytes"),
         references: references_in(alloc, words)?,
+        from: text_at(alloc, words, "from")?,
         citations: text_at(alloc, words, "CITATIONS")?,
     })
 }

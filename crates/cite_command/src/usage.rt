@@ -65,6 +65,16 @@ Example: with the references of books.json, a list, in a style that is built in,
    echo '{\"citations\": [[{\"id\": \"smith2020\"}]]}'
    echo '{\"answer\": true}') | gamhilon session";
 
+/// What the help of the command of references ends with.
+pub(crate) const ENTRIES_NOTES: &str = "\
+The form of a file is that of --from, or else that of its ending (.json, .bib for BibLaTeX, .bibtex,
+.ris), or else that of its beginning. Standard error says what was lost, by entry and field. The
+name - stands for the standard input.
+
+Example: the entries of library.bib as CSL-JSON,
+
+  gamhilon entries library.bib > library.json";
+
 /// What the help of the command of styles ends with.
 pub(crate) const STYLES_NOTES: &str = "\
 Example: a style of one's own begins as a copy,

@@ -1,6 +1,7 @@
 //! Files are checked: styles, locale files, references, citations and documents.
 use crate::commands::citations_in;
 use crate::documents::document_fault;
+use crate::entries::converted;
 use crate::error::{CommandError, LIMIT_EXCEEDED};
 use crate::files::{bytes_of, bytes_refused};
 use crate::items::show_item_warnings;
@@ -78,6 +79,9 @@ fn check_file(
     path: &str,
 ) -> Result<(), CommandError> {
     let bytes = bytes_of(rt, path)?;
+    if let Some(json) = converted(rt, path, None, &bytes)? {
+        return check_references(rt, path, json.as_str().as_bytes());
+    }
     match FileKind::of_bytes(rt.alloc(), &bytes) {
         FileKind::Csl => check_csl(rt, path, &bytes),
         FileKind::References => check_references(rt, path, &bytes),

@@ -9,6 +9,7 @@ mod checking;
 mod commands;
 mod document_error;
 mod documents;
+mod entries;
 mod error;
 mod files;
 mod items;
@@ -53,6 +54,7 @@ fn run(
         Command::Check(paths) => return checking::check_all(rt, &paths),
         Command::Cite(options) => commands::cite(rt, &options)?,
         Command::Bibliography(options) => commands::bibliography(rt, &options)?,
+        Command::Entries(options) => entries::entries(rt, &options)?,
         Command::Render(options) => documents::render(rt, &options)?,
         Command::Session => sessions::answer_lines(rt)?,
         Command::StyleSheet => print!(rt; "{STYLE_SHEET}")?,

@@ -1,4 +1,5 @@
 //! The references of a command.
+use crate::entries::converted;
 use crate::error::CommandError;
 use crate::files::bytes_of;
 use crate::items::{is_bibtex, item_refused, show_item_warnings};
@@ -11,23 +12,22 @@ use csl_references::reference::References;
 use std::alloc::Global;
 use std::rt::Files;
 
-/// What a file of BibTeX is, and what makes CSL-JSON of it.
-const BIBTEX: &str = "this is BibTeX or BibLaTeX; `python3 -m gamhilon entries library.bib > \
-    library.json` makes CSL-JSON of it";
+/// What a file of BibTeX is that is named as one of JSON.
+const BIBTEX: &str = "this is BibTeX or BibLaTeX: name the file .bib, or say `--from biblatex`";
 
 /// The references of all files, in their order. What is odd in them is printed; of items with the
 /// same id the last stays.
 ///
 /// # Errors
 ///
-/// Those of `bytes_of`; `Refused` where a file is no CSL-JSON.
+/// Those of `bytes_of`; `Refused` where a file isn't of its form.
 pub(crate) fn references_of(
     rt: &(impl Files + Input + Eprint + AllocGlobal),
     options: &Options,
 ) -> Result<References, CommandError> {
     let mut references = References::new(rt.alloc());
     for path in &options.references {
-        let bytes = bytes_of(rt, path.as_str())?;
+        let bytes = json_of_file(rt, path.as_str(), options.from.as_deref())?;
         let read = references_in(rt.alloc(), path.as_str(), &bytes, options.is_draft)?;
         show_item_warnings(rt, path.as_str(), &bytes, &read.warnings)?;
         add_all(rt, path.as_str(), &mut references, read.references)?;
@@ -35,8 +35,21 @@ pub(crate) fn references_of(
     Ok(references)
 }
 
-/// The references in a file of these bytes, behind a byte order mark or without one. Of a draft,
-/// an item with a fault is left out, with a warning.
+/// The CSL-JSON of a file, which may be in another form.
+fn json_of_file(
+    rt: &(impl Files + Input + Eprint + AllocGlobal),
+    path: &str,
+    from: Option<&str>,
+) -> Result<Vec<u8>, CommandError> {
+    let bytes = bytes_of(rt, path)?;
+    match converted(rt, path, from, &bytes)? {
+        Some(json) => Ok(json.into_bytes()),
+        None => Ok(bytes),
+    }
+}
+
+/// The references in a file of CSL-JSON of these bytes, behind a byte order mark or without one. Of
+/// a draft, an item with a fault is left out, with a warning.
 ///
 /// # Errors
 ///

@@ -2,8 +2,9 @@
 //! tests/styles and tests/references run it.
 //!
 //! Standard input has documents, each behind a line with a letter (`x` for XML, `s` for a style or a
-//! locale, `r` for references) and nine digits, its length in bytes. What is said of each stands in
-//! src/xml.rt, src/styles.rt and src/references.rt. The argument names the task (src/task.rt). All
+//! locale, `r` for references in CSL-JSON, `t` for BibTeX, `b` for BibLaTeX, `i` for RIS) and nine
+//! digits, its length in bytes. What is said of each stands in src/xml.rt, src/styles.rt,
+//! src/references.rt and src/entries.rt. The argument names the task (src/task.rt). All
 //! is printed at once. The exit status is 5 where memory is refused, and nothing is printed then.
 #![tactic(auto)]
 
@@ -12,6 +13,7 @@ ghost use Rattle.std.specs.Prelude.{◌<◌, length, IfSome};
 mod dates;
 mod dump;
 mod elements;
+mod entries;
 mod locales;
 mod names;
 mod references;
@@ -22,6 +24,7 @@ mod task;
 mod xml;
 
 use dump::Dump;
+use entries::EntryForm;
 use std::alloc::Global;
 use std::io;
 use std::io::{ErrorKind, Read};
@@ -35,6 +38,7 @@ enum Reader {
     Xml,
     Styles,
     References,
+    Entries(EntryForm),
 }
 
 /// How many characters there are in the line before a document, but for its letter.
@@ -45,6 +49,9 @@ fn next_reader(bytes: &[u8]) -> Reader {
     match bytes.first() {
         Some(b'x') => Reader::Xml,
         Some(b's') => Reader::Styles,
+        Some(b't') => Reader::Entries(EntryForm::BibTex),
+        Some(b'b') => Reader::Entries(EntryForm::BibLatex),
+        Some(b'i') => Reader::Entries(EntryForm::Ris),
         _ => Reader::References,
     }
 }
@@ -71,6 +78,7 @@ fn say(
         Reader::Xml => xml::say(rt, task, document, dump),
         Reader::Styles => styles::say(rt, task, document, dump),
         Reader::References => references::say(rt, task, document, dump),
+        Reader::Entries(form) => entries::say(rt, task, form, document, dump),
     }
 }
 
@@ -83,6 +91,7 @@ fn count(alloc: Global, task: Task, reader: Reader, document: &[u8]) -> usize {
             references::count_values(alloc, document)
         }
         Reader::References => references::count(alloc, document),
+        Reader::Entries(form) => entries::count(alloc, form, document),
     }
 }
 
