@@ -3,7 +3,7 @@
 ghost use Rattle.std.specs.Prelude.{◌≡◌, ◌||◌, IfOk, true};
 ghost use Rattle.csl_assembly.specs.declared.rendered.Rendered.{Rendered};
 ghost use Rattle.csl_driver.specs.Answer.{Job};
-ghost use Rattle.csl_driver.specs.CslLaws.{KeepsCslLaws, laters_had};
+ghost use Rattle.csl_driver.specs.CslLaws.{KeepsCslLaws, mentions_had};
 ghost use Rattle.csl_driver.specs.JobView.{job_of};
 ghost use Rattle.csl_told_laws.specs.SuffixLaws.{ReadAlike, suffix_at};
 ghost use Rattle.csl_writers.specs.Writing.{Writing};
@@ -31,7 +31,7 @@ fn suffix_of(suffixes: &[Option<usize>], place: usize) -> Option<usize>
 
 /// The letters of the suffixes that the entries at two places of an account have; none where one of
 /// them has no suffix. In the account of an answer both have letters, which differ, where their
-/// later mentions read alike and the style of either adds suffixes.
+/// later mentions occur and read alike, and the style of either adds suffixes.
 ///
 /// # Errors
 /// Where memory is refused.
@@ -43,7 +43,7 @@ pub fn letters_of_alike<'a, T: EntryLike, P: Eq>(
 ) -> Result<Option<(String, String)>, AllocError>
     ensures { IfOk result (λ letters. (asked : Job T P) (writing : Writing T P)
         (rendered : Rendered) → KeepsCslLaws T.eq asked writing P.eq (rendered, account.now)
-        → (alike : ReadAlike (laters_had T.eq asked writing account.now) first second)
+        → (alike : ReadAlike (mentions_had T.eq asked writing account.now) first second)
         → (alike.one.adds_suffix || alike.other.adds_suffix) ≡ true
         → HaveOtherLetters letters) }
 {
@@ -71,9 +71,9 @@ pub fn letters_in_csl_answer<'a, T: EntryLike, P: Eq + Drop>(
     first: usize,
     second: usize,
 ) -> Result<(CslAccount<'a, T>, Option<(String, String)>), DriverError>
-    ensures { let laters = laters_had T.eq (job_of driver.entry request.entry)
+    ensures { let mentions = mentions_had T.eq (job_of driver.entry request.entry)
         (layout_writing T.answers) in
-        IfOk result (λ r. (alike : ReadAlike (laters r.0) first second)
+        IfOk result (λ r. (alike : ReadAlike (mentions r.0) first second)
         → (alike.one.adds_suffix || alike.other.adds_suffix) ≡ true
         → HaveOtherLetters r.1) }
 {
