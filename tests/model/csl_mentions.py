@@ -29,6 +29,8 @@ class Mention:
     style: dict
     locale: Optional[str]
     properties: Properties
+    # Whether some cite is of this kind.
+    occurs: bool = True
     # Of the first writing, for ever.
     persons: tuple = ()
     own: tuple = ()
@@ -91,3 +93,13 @@ def groups_of(mentions):
         if mention.text:
             classes.setdefault(mention.text, []).append(mention)
     return [group for group in classes.values() if len({mention.key for mention in group}) > 1]
+
+
+def occurring(mentions):
+    """Those that some cite reads as. What no cite shows asks nothing."""
+    return [mention for mention in mentions if mention.occurs]
+
+
+def asked(groups):
+    """The groups in which mentions of several entries occur."""
+    return [group for group in groups if groups_of(occurring(group))]

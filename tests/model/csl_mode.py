@@ -11,7 +11,7 @@ from typing import Optional
 from bibliography import first_field
 from cites import OfItem, note_of
 from csl_authors import substitute_repeated
-from csl_mentions import Mention, groups_of
+from csl_mentions import Mention, asked, groups_of, occurring
 from csl_names import told_by_names
 from csl_places import Shown, has_blocks, in_blocks, is_looked_at, note_facts
 from csl_places import settle_parts, settle_repeats, shrink
@@ -101,7 +101,8 @@ class CslMode:
         style = self.document.styles[request['style']]
         is_near = is_later and style.get('class') == 'note'
         properties = Properties(self.numbers[key], None, home.first_note, is_near, not is_later)
-        return Mention(self.document.entries[key], style, request.get('locale'), properties)
+        occurs = not is_later or sum(cite.key == key for row in self.rows for cite in row) > 1
+        return Mention(self.document.entries[key], style, request.get('locale'), properties, occurs)
 
     # The three tables
 
@@ -138,16 +139,18 @@ class CslMode:
         self.round('names', changed)
 
     def tell_by_condition(self):
-        """All that test it, of those that still read alike."""
-        alike = {mention for group in groups_of(self.mentions) for mention in group}
+        """All that test it, where mentions of two entries occur that still read alike."""
+        alike = {mention for group in asked(groups_of(self.mentions)) for mention in group}
         changed = [mention for mention in self.mentions if mention in alike and mention.tested]
         for mention in changed:
             mention.chosen = True
         self.round('the condition', changed)
 
     def tell_by_suffixes(self):
-        """Entries whose later mentions read alike, if the style of one of them adds suffixes."""
-        for number, members in enumerate(groups_of(self.laters)):
+        """Entries whose later mentions read alike, and that also read alike in cites, if the style
+        of one of them adds suffixes."""
+        for number, group in enumerate(groups_of(self.laters)):
+            members = self.asked_of(group)
             if any(mention.citation.get('add_year_suffix') for mention in members):
                 for suffix, mention in enumerate(members):
                     self.suffixes[mention.key] = suffix
@@ -156,6 +159,13 @@ class CslMode:
         self.events['documents told by suffixes'] += bool(self.suffixes)
         self.events['entries with suffixes'] += len(self.suffixes)
         self.events['documents of %d rounds' % self.rounds] += 1
+
+    def asked_of(self, laters):
+        """Those of a class whose entries some cites show like another of it."""
+        keys = {mention.key for mention in laters}
+        alike = groups_of([mention for mention in occurring(self.mentions) if mention.key in keys])
+        shown = {mention.key for group in alike for mention in group}
+        return [mention for mention in laters if mention.key in shown]
 
     # The cites in their places
 

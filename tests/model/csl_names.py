@@ -3,6 +3,7 @@ persons of a document ask for, and what two mentions that read alike ask of each
 """
 from itertools import zip_longest
 
+from csl_mentions import occurring
 from pieces import initials
 from states import COUNT, FULL, INITIALS, SHORT
 
@@ -124,14 +125,14 @@ def told_by_names(mentions, groups):
     """Of each mention the forms of its names that tell it from others, or none where these are its
     own."""
     count = {mention: 0 for mention in mentions}
-    least = {mention: forms_by_document(mention, mentions) for mention in mentions}
+    least = {mention: forms_by_document(mention, occurring(mentions)) for mention in mentions}
     by_document = {mention: tuple(forms) for mention, forms in least.items()}
     for group in groups:
-        citation = group[0].citation
+        citation = (occurring(group) + group)[0].citation
         by_cite = rule_of(citation) == 'by-cite'
         reaches = {mention: reach(mention, by_document[mention], citation) for mention in group}
         for mention in group:
-            for other in group:
+            for other in occurring(group):
                 number, form = needs_against(mention, other, reaches, by_cite)
                 count[mention] = max(count[mention], number)
                 if form is not None:
