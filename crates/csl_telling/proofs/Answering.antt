@@ -5,7 +5,7 @@ use Rattle.std.specs.List.{enumerate_from, range_with_len}
 use Rattle.std.specs.Option.{option_and_then}
 use Rattle.std.proofs.lemmas.Bool.{cases_lt, eqb-true, false≢true}
 use Rattle.std.proofs.lemmas.List.{append_assoc, get_or-map, length-map, length_push}
-use Rattle.std.proofs.lemmas.List.Elements.{All-cons, All-get_or, All-map, All-nil}
+use Rattle.std.proofs.lemmas.List.Elements.{All-cons, All-get_or, All-head, All-map, All-nil, All-tail}
 use Rattle.std.proofs.lemmas.List.FromFn.{get_or-map-range_with_len, length-map-range_with_len}
 use Rattle.std.proofs.lemmas.Option.{slice_get-get_or, slice_get_past}
 use Rattle.csl_values.specs.Forms.{Forms}
@@ -14,11 +14,12 @@ use Rattle.csl_values.specs.declared.names.NameDisambiguationProperties.{NameDis
 use Rattle.csl_telling.specs.ByDocument.{document_form}
 use Rattle.csl_telling.specs.Forms.{base, greater, greatest_form, raised_form, raised_forms, same_forms}
 use Rattle.csl_telling.specs.Gathered.{IsGathered, needs, needs_on}
+use Rattle.csl_telling.specs.Gathered.{asking as ways_asking}
 use Rattle.csl_telling.specs.Persons.{own_forms}
 use Rattle.csl_telling.specs.Raising.{form_needed_by, raised_by, raised_names}
 use Rattle.csl_telling.specs.Reaches.{first_member, is_by_cite, reach, reach_by}
 use Rattle.csl_telling.specs.Telling.{first_difference, form_against, form_beside, form_needed, greatest, group_of, in_one_group, names_against, names_needed}
-use Rattle.csl_telling.specs.Told.{least_form, told_by_names}
+use Rattle.csl_telling.specs.Told.{asking, least_form, told_by_names}
 use Rattle.csl_telling.specs.Ways.{AllMade, AllMadeBy, way_of}
 use Rattle.csl_telling.specs.declared.gathered.Gathered.{Gathered}
 use Rattle.csl_telling.specs.declared.gathered.Needs.{Needs}
@@ -82,12 +83,12 @@ needed-there reaches a i = by (cases_lt i (length a.looks))
 -- a mention in no group needs nothing
 none-needed : (g : Gathered) (steps : List Step) (reaches : List Reach) (a : Reach) → a.group ≡ None → a.looks ≡ [] → needs_on g (way_of steps a) ≡ needs reaches a
 none-needed g steps reaches a e l =
-    (λ t. needs_on g (way_of steps (record { group = e t; by_cite = a.by_cite; looks = l t })))
+    (λ t. needs_on g (way_of steps (record { group = e t; by_cite = a.by_cite; looks = l t; occurs = a.occurs })))
     ∙ nothing
-    ∙ sym (λ t. needs reaches (record { group = e t; by_cite = a.by_cite; looks = l t }))
+    ∙ sym (λ t. needs reaches (record { group = e t; by_cite = a.by_cite; looks = l t; occurs = a.occurs }))
   where
     plain : Reach
-    plain = record { group = None; by_cite = a.by_cite; looks = [] }
+    plain = record { group = None; by_cite = a.by_cite; looks = []; occurs = a.occurs }
 
     alone : (bs : List Reach) → filter (λ b. in_one_group None b.group) bs ≡ []
     alone [] = refl
@@ -98,6 +99,25 @@ none-needed g steps reaches a e l =
       where
         greatest_against : List Reach → ℕ
         greatest_against bs = greatest (map (names_against plain) bs)
+
+-- what holds of all members holds of those that are kept
+kept-all : {X : Type 0} (P : X → Type 0) (p : X → Bool) (xs : List X) → All P xs → All P (filter p xs)
+kept-all P p [] all = All-nil P
+kept-all P p (x ∷ xs) all = by (p x) (kept-all P p xs (All-tail P x xs all))
+  where
+    by : (b : Bool) → All P (filter p xs) → All P (cond b (x ∷ filter p xs) (filter p xs))
+    by true rest = All-cons P x (filter p xs) (All-head P x xs all) rest
+    by false rest = rest
+
+-- the ways of the mentions that occur
+asking-ways : (steps : List Step) (bs : List Reach) → ways_asking (map (way_of steps) bs) ≡ map (way_of steps) (filter (λ b. b.occurs) bs)
+asking-ways steps [] = refl
+asking-ways steps (b ∷ bs) = by b.occurs (asking-ways steps bs)
+  where
+    by : (o : Bool) → ways_asking (map (way_of steps) bs) ≡ map (way_of steps) (filter (λ b. b.occurs) bs)
+        → cond o (way_of steps b ∷ ways_asking (map (way_of steps) bs)) (ways_asking (map (way_of steps) bs)) ≡ map (way_of steps) (cond o (b ∷ filter (λ b. b.occurs) bs) (filter (λ b. b.occurs) bs))
+    by true rest = ap (λ ws. way_of steps b ∷ ws) rest
+    by false rest = rest
 
 module _ (ms : List NamedMention) where
   abbrev cited : Option NamedMention → Bool
@@ -113,7 +133,7 @@ module _ (ms : List NamedMention) where
   own-group m (Some f) = refl
 
   abbrev reaches : List Reach
-  reaches = map (reach ms) ms
+  reaches = asking ms
 
   module _ (m : NamedMention) (steps : List Step) (made : All (AllMade steps) reaches) (g : Gathered) (known : IsGathered g (map (way_of steps) reaches)) (own : AllMade steps (reach ms m)) where
     abbrev a : Reach
@@ -121,9 +141,9 @@ module _ (ms : List NamedMention) where
 
     in-its-group : (h : ℕ) → m.group ≡ Some h → needs_on g (way_of steps a) ≡ needs reaches a
     in-its-group h e =
-        (λ t. needs_on g (way_of steps (record { group = is t; by_cite = a.by_cite; looks = a.looks })))
-        ∙ needs-found steps reaches made g known h a.looks (subst (λ o. AllMadeBy steps o a.looks) is own) a.by_cite alike
-        ∙ sym (λ t. needs reaches (record { group = is t; by_cite = a.by_cite; looks = a.looks }))
+        (λ t. needs_on g (way_of steps (record { group = is t; by_cite = a.by_cite; looks = a.looks; occurs = a.occurs })))
+        ∙ needs-found steps reaches made g known h a.looks (subst (λ o. AllMadeBy steps o a.looks) is own) a.by_cite a.occurs alike
+        ∙ sym (λ t. needs reaches (record { group = is t; by_cite = a.by_cite; looks = a.looks; occurs = a.occurs }))
       where
         is : a.group ≡ Some h
         is = own-group m (first_member ms m) ∙ e
@@ -134,7 +154,9 @@ module _ (ms : List NamedMention) where
             ap (option_and_then (slice_get ms)) (k ∙ ap Some (sym (eqb-true h j f)) ∙ sym e)
 
         alike : All (λ b. in_one_group (Some h) b.group ≡ true → b.by_cite ≡ a.by_cite) reaches
-        alike = All-map (λ b. in_one_group (Some h) b.group ≡ true → b.by_cite ≡ a.by_cite) (reach ms) ms (each ms)
+        alike =
+            kept-all (λ b. in_one_group (Some h) b.group ≡ true → b.by_cite ≡ a.by_cite) (λ b. b.occurs) (map (reach ms) ms)
+            (All-map (λ b. in_one_group (Some h) b.group ≡ true → b.by_cite ≡ a.by_cite) (reach ms) ms (each ms))
           where
             one : (x : NamedMention) → in_one_group (Some h) (reach ms x).group ≡ true → (reach ms x).by_cite ≡ a.by_cite
             one x f =
@@ -166,7 +188,7 @@ module _ (ms : List NamedMention) where
 -- one mention more
 pub found-next : (ms : List NamedMention) (steps : List Step) (g : Gathered) (ways : List Way) (k : ℕ) (m : NamedMention) (way : Way) (n : Needs) (t : Option NameDisambiguationProperties)
     (found all : List (Option NameDisambiguationProperties)) → k < length ms → m ≡ get_or ms k m → ways ≡ map (way_of steps) (map (reach ms) ms)
-    → All (AllMade steps) (map (reach ms) ms) → IsGathered g ways → way ≡ get_or ways k way → n ≡ needs_on g way → t ≡ raised_by ms n m
+    → All (AllMade steps) (map (reach ms) ms) → IsGathered g (ways_asking ways) → way ≡ get_or ways k way → n ≡ needs_on g way → t ≡ raised_by ms n m
     → found ≡ map (told_by_names ms) (take k ms) → all ≡ found ++ t ∷ [] → all ≡ map (told_by_names ms) (take (k + 1) ms)
 found-next ms steps g ways k m way n t found all within here are made known at_k is told so_far pushed =
     pushed ∙ (λ i. so_far i ++ own i ∷ []) ∙ sym (map-next ms k m within here (told_by_names ms))
@@ -185,5 +207,6 @@ found-next ms steps g ways k m way n t found all within here are made known at_k
 
     own : t ≡ told_by_names ms m
     own =
-        told ∙ ap (λ x. raised_by ms x m) (is ∙ ap (needs_on g) own-way ∙ needs-of ms m steps made g (subst (IsGathered g) are known) own-made)
+        told ∙ ap (λ x. raised_by ms x m) (is ∙ ap (needs_on g) own-way ∙ needs-of ms m steps (kept-all (AllMade steps) (λ b. b.occurs) (map (reach ms) ms) made) g
+        (subst (IsGathered g) (ap ways_asking are ∙ asking-ways steps (map (reach ms) ms)) known) own-made)
         ∙ told-by ms m

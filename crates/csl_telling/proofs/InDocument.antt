@@ -10,7 +10,7 @@ use Rattle.csl_telling.specs.ByDocument.{document_form, form_by_rule}
 use Rattle.csl_telling.specs.Known.{KnowsDocument, everywhere, person_keys, rival_form}
 use Rattle.csl_telling.specs.declared.document.Document.{Document}
 use Rattle.csl_telling.specs.Looks.{full_look, has_given, is_namesake, needed, needed_beside, same_initials, same_look}
-use Rattle.csl_telling.specs.Persons.{full_looks}
+use Rattle.csl_telling.specs.Persons.{full_looks, names_asking}
 use Rattle.csl_telling.specs.Rivals.{AreRivals, by_family, by_initials, form_by, is_other_shown, named_keys}
 use Rattle.csl_telling.specs.declared.look.Look.{Look}
 use Rattle.csl_telling.specs.declared.mention.MentionedName.{MentionedName}
@@ -85,4 +85,4 @@ module _ (r : Look) where
 pub document-form : (d : Document) (ms : List NamedMention) → KnowsDocument d ms → (rule : Option DisambiguationRule) (i : ℕ) (n : MentionedName)
     → form_by_rule rule i (rival_form d.all everywhere (full_look n.person)) (rival_form d.first everywhere (full_look n.person)) ≡ document_form ms rule i n
 document-form d ms h rule i n =
-    λ t. form_by_rule rule i (form-among (full_look n.person) d.all (λ m. m.names) ms h.all t) (form-among (full_look n.person) d.first (λ m. take 1 m.names) ms h.first t)
+    λ t. form_by_rule rule i (form-among (full_look n.person) d.all names_asking ms h.all t) (form-among (full_look n.person) d.first (λ m. take 1 (names_asking m)) ms h.first t)

@@ -231,9 +231,9 @@ module _ (steps : List Step) (reaches : List Reach) (made : All (AllMade steps) 
       (λ w. any-flat_map (same_node (node i)) ends_at w.stops ∙ any-same _ _ (λ t. at-end (node i) t.node t.look) w.stops) (map (way_of steps) reaches)
       ∙ ways-any (λ c o. is_none o) i within
 
-  module _ (c : Bool) (alike : All (λ b. in_one_group (Some group) b.group ≡ true → b.by_cite ≡ c) reaches) where
+  module _ (c own : Bool) (alike : All (λ b. in_one_group (Some group) b.group ≡ true → b.by_cite ≡ c) reaches) where
     abbrev a : Reach
-    a = record { group = Some group; by_cite = c; looks = r }
+    a = record { group = Some group; by_cite = c; looks = r; occurs = own }
 
     abbrev others : List Reach
     others = group_of reaches a

@@ -4,9 +4,10 @@ use Rattle.std.specs.BTreeMap.{BTreeMap}
 use Rattle.std.specs.List.{enumerate_from, flat_map}
 use Rattle.std.proofs.lemmas.Grind.{flat_map-append}
 use Rattle.std.proofs.lemmas.List.{append-nil, map-append, take_all, take_more}
+use Rattle.std.proofs.lemmas.List.Elements.{filter-append}
 use Rattle.std.proofs.lemmas.List.Folds.{list_any-append}
 use Rattle.std.proofs.lemmas.List.FromFn.{get_or-enumerate_from, length-enumerate_from}
-use Rattle.csl_telling.specs.Gathered.{ends_of, is_end, same_node}
+use Rattle.csl_telling.specs.Gathered.{asking, ends_of, is_end, same_node, shown_by}
 use Rattle.csl_telling.specs.Rivals.{AreRivals, Shown, TellsMore}
 use Rattle.csl_telling.specs.declared.rivals.Held.{Held}
 use Rattle.csl_telling.specs.declared.rivals.Node.{Node}
@@ -45,10 +46,20 @@ module _ {X : Type 0} (xs : List X) (k : ℕ) (x : X) (within : k < length xs) (
 pub enumerate-all : {X : Type 0} (xs : List X) (k : ℕ) → length xs ≤ k → take k (enumerate_from 0 xs) ≡ enumerate_from 0 xs
 enumerate-all xs k all = take_all k (enumerate_from 0 xs) (subst (λ n. n ≤ k) (sym (length-enumerate_from 0 xs)) all)
 
--- the ends of one more way
-pub ends-next : (ways : List Way) (k : ℕ) (w : Way) → k < length ways → w ≡ get_or ways k w → (old new : List Node)
-    → ((n : Node) → is_end n old ≡ is_end n (flat_map ends_of (take k ways))) → ((n : Node) → is_end n new ≡ is_end n (old ++ ends_of w))
-    → (n : Node) → is_end n new ≡ is_end n (flat_map ends_of (take (k + 1) ways))
-ends-next ways k w within here old new so_far added n =
-    added n ∙ list_any-append (same_node n) old (ends_of w) ∙ ap (λ b. b || is_end n (ends_of w)) (so_far n)
-    ∙ sym (list_any-append (same_node n) (flat_map ends_of (take k ways)) (ends_of w)) ∙ ap (is_end n) (sym (flat-next ways k w within here ends_of))
+-- those of the mentions that occur, one more way
+module _ (ways : List Way) (k : ℕ) (w : Way) (within : k < length ways) (here : w ≡ get_or ways k w) where
+  asking-next : {Y : Type 0} (f : Way → List Y) → flat_map f (asking (take (k + 1) ways)) ≡ flat_map f (asking (take k ways)) ++ flat_map f (asking (w ∷ []))
+  asking-next f =
+      ap (λ l. flat_map f (asking l)) (next ways k w within here) ∙ ap (flat_map f) (filter-append (λ v. v.occurs) (take k ways) (w ∷ []))
+      ∙ flat_map-append f (asking (take k ways)) (asking (w ∷ []))
+
+  pub asked-next : (b c : BTreeMap SharedName Held) → AreRivals b (flat_map shown_by (asking (take k ways))) → TellsMore b c (flat_map shown_by (asking (w ∷ [])))
+      → AreRivals c (flat_map shown_by (asking (take (k + 1) ways)))
+  asked-next b c h q = subst (AreRivals c) (sym (asking-next shown_by)) (q (flat_map shown_by (asking (take k ways))) h)
+
+  pub ends-next : (old new : List Node) → ((n : Node) → is_end n old ≡ is_end n (flat_map ends_of (asking (take k ways))))
+      → ((n : Node) → is_end n new ≡ is_end n (old ++ flat_map ends_of (asking (w ∷ [])))) → (n : Node) → is_end n new ≡ is_end n (flat_map ends_of (asking (take (k + 1) ways)))
+  ends-next old new so_far added n =
+      let more = flat_map ends_of (asking (w ∷ [])) in
+      added n ∙ list_any-append (same_node n) old more ∙ ap (λ b. b || is_end n more) (so_far n)
+      ∙ sym (list_any-append (same_node n) (flat_map ends_of (asking (take k ways))) more) ∙ ap (is_end n) (sym (asking-next ends_of))

@@ -96,7 +96,7 @@ module _ (old new : List Step) (e : Extends old new) where
   pub ways-stay : (bs : List Reach) → All (AllMade old) bs → map (way_of old) bs ≡ map (way_of new) bs
   ways-stay [] all = refl
   ways-stay (b ∷ bs) all =
-      λ t. record { by_cite = b.by_cite; stops = stops-stay b.group b.looks (All-head (AllMade old) b bs all) t } ∷ ways-stay bs (All-tail (AllMade old) b bs all) t
+      λ t. record { by_cite = b.by_cite; stops = stops-stay b.group b.looks (All-head (AllMade old) b bs all) t; occurs = b.occurs } ∷ ways-stay bs (All-tail (AllMade old) b bs all) t
 
   pub all-made-too : (bs : List Reach) → All (AllMade old) bs → All (AllMade new) bs
   all-made-too bs all = All-weaker (AllMade old) (AllMade new) (λ b m. made-too b.group b.looks m) bs all

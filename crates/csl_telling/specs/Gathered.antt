@@ -1,6 +1,6 @@
 -- For the code: all that is shown from the stops of the mentions' ways, and what follows for one
 -- of them.
-use Rattle.std.specs.Prelude.{◌≡◌, ◌+◌, ℕ, Bool, List, [], ◌∷◌, Option, None, Some, if◌then◌else◌, is_some, length, map}
+use Rattle.std.specs.Prelude.{◌≡◌, ◌+◌, ℕ, Bool, List, [], ◌∷◌, Option, None, Some, filter, if◌then◌else◌, is_some, length, map}
 use Rattle.std.specs.List.{enumerate_from, flat_map, list_any, range_with_len}
 use Rattle.csl_values.specs.declared.names.DisambiguatedNameForm.{DisambiguatedNameForm}
 use Rattle.csl_telling.specs.Known.{rival_form}
@@ -42,6 +42,10 @@ ends_of w = flat_map ends_at w.stops
 
 abbrev pub is_end : Node → List Node → Bool
 is_end n nodes = list_any (same_node n) nodes
+
+-- the ways of the mentions that occur
+abbrev pub asking : List Way → List Way
+asking = filter (λ w. w.occurs)
 
 -- all that is shown on these ways, and all ends, are known
 pub record IsGathered (gathered : Gathered) (ways : List Way) : Type 0 where

@@ -4,6 +4,7 @@ use Rattle.std.specs.BTreeMap.{BTreeMap}
 use Rattle.std.specs.List.{flat_map}
 use Rattle.csl_values.specs.declared.names.DisambiguatedNameForm.{DisambiguatedNameForm}
 use Rattle.csl_telling.specs.Looks.{full_look, has_given}
+use Rattle.csl_telling.specs.Persons.{names_asking}
 use Rattle.csl_telling.specs.Rivals.{AreRivals, Shown, by_family, by_initials, form_by, held_for, is_other_held, named_keys}
 use Rattle.csl_telling.specs.declared.document.Document.{Document}
 use Rattle.csl_telling.specs.declared.look.Look.{Look}
@@ -27,8 +28,8 @@ rival_form rivals node r = form_by (has_given r)
 abbrev pub person_keys : MentionedName → Shown
 person_keys n = named_keys everywhere (full_look n.person)
 
--- the persons of these mentions
+-- the persons of those of these mentions that occur
 pub record KnowsDocument (document : Document) (mentions : List NamedMention) : Type 0 where
-  pub all : AreRivals document.all (flat_map (λ m. flat_map person_keys m.names) mentions)
+  pub all : AreRivals document.all (flat_map (λ m. flat_map person_keys (names_asking m)) mentions)
   pub first : AreRivals document.first
-      (flat_map (λ m. flat_map person_keys (take 1 m.names)) mentions)
+      (flat_map (λ m. flat_map person_keys (take 1 (names_asking m))) mentions)

@@ -1,5 +1,5 @@
 -- The persons of mentions, and the forms in which their styles write them.
-use Rattle.std.specs.Prelude.{List, map, take}
+use Rattle.std.specs.Prelude.{List, [], if◌then◌else◌, map, take}
 use Rattle.std.specs.List.{flat_map}
 use Rattle.csl_values.specs.Forms.{Forms}
 use Rattle.csl_telling.specs.Looks.{full_look}
@@ -15,10 +15,14 @@ own_forms = map (λ n. n.own)
 abbrev pub full_looks : List MentionedName → List Look
 full_looks = map (λ n. full_look n.person)
 
--- all persons of mentions
+-- the names of a mention that occurs; the others ask nothing
+abbrev pub names_asking : NamedMention → List MentionedName
+names_asking m = if m.occurs then m.names else []
+
+-- all persons of the mentions that occur
 abbrev pub all_persons : List NamedMention → List Look
-all_persons mentions = flat_map (λ m. full_looks m.names) mentions
+all_persons mentions = flat_map (λ m. full_looks (names_asking m)) mentions
 
 -- and their first ones
 abbrev pub first_persons : List NamedMention → List Look
-first_persons mentions = flat_map (λ m. full_looks (take 1 m.names)) mentions
+first_persons mentions = flat_map (λ m. full_looks (take 1 (names_asking m))) mentions

@@ -31,7 +31,7 @@ reach_form by_cite base document own = if by_cite then DisambiguatedNameForm.Lon
     else greater document (written base own)
 
 module _ (mentions : List NamedMention) where
-  -- the first mention of the group that this one is in; its style says what the group may do
+  -- the mention that leads the group that this one is in; its style says what the group may do
   abbrev pub first_member : NamedMention → Option NamedMention
   first_member m = option_and_then (slice_get mentions) m.group
 
@@ -43,14 +43,15 @@ module _ (mentions : List NamedMention) where
       (document_form mentions m.rule p.0 p.1) p.1.own) p.1.person)
       (enumerate_from 0 (can_be_shown adds_names m.names))
 
-  -- that of a mention whose group begins with this one; of one that is in no group there is
+  -- that of a mention whose group this one leads; of one that is in no group there is
   -- nothing to tell
   abbrev pub reach_by : NamedMention → Option NamedMention → Reach
-  reach_by m None = record { group = m.group; by_cite = false; looks = [] }
+  reach_by m None = record { group = m.group; by_cite = false; looks = []; occurs = m.occurs }
   reach_by m (Some f) = record {
     group = m.group;
     by_cite = is_by_cite f.rule;
     looks = looks_in f.adds_names (is_by_cite f.rule) m;
+    occurs = m.occurs;
   }
 
   abbrev pub reach : NamedMention → Reach

@@ -40,7 +40,8 @@ module _ (steps : List Step) where
   stops_of (Some g) looks = map (stop_at g looks) (range_with_len 0 (length looks + 1))
 
   abbrev pub way_of : Reach → Way
-  way_of a = record { by_cite = a.by_cite; stops = stops_of a.group a.looks }
+  way_of a =
+      record { by_cite = a.by_cite; stops = stops_of a.group a.looks; occurs = a.occurs }
 
   -- all steps of a mention were made
   abbrev pub AllMadeBy : Option ℕ → List Look → Type 0

@@ -5,6 +5,7 @@ ghost use Rattle.std.specs.List.{flat_map};
 ghost use Rattle.csl_telling.specs.ByDocument.{form_by_rule, without_full};
 ghost use Rattle.csl_telling.specs.Looks.{full_look};
 ghost use Rattle.csl_telling.specs.Known.{KnowsDocument, everywhere, person_keys, rival_form};
+ghost use Rattle.csl_telling.specs.Persons.{names_asking};
 ghost use Rattle.csl_telling.specs.Rivals.{AreRivals, TellsMore};
 
 use crate::look::shown_as;
@@ -51,29 +52,40 @@ fn add_first(alloc: Global, rivals: &mut Rivals, names: &[MentionedName]) -> Res
     }
 }
 
+/// The names of a mention that occurs; of any other none.
+fn names_asking(mention: &NamedMention) -> &[MentionedName]
+    ensures { result.now ≡ names_asking mention.now }
+{
+    if mention.occurs {
+        mention.names.as_slice()
+    } else {
+        &[]
+    }
+}
+
 fn all_rivals(alloc: Global, mentions: &[NamedMention]) -> Result<Rivals, AllocError>
     ensures { IfOk result (λ r. AreRivals r
-        (flat_map (λ m. flat_map person_keys m.names) mentions.now)) }
+        (flat_map (λ m. flat_map person_keys (names_asking m)) mentions.now)) }
 {
     let mut rivals = BTreeMap::new(alloc);
     for mention in mentions {
-        add_names(alloc, &mut rivals, mention.names.as_slice())?;
+        add_names(alloc, &mut rivals, names_asking(mention))?;
     }
     Ok(rivals)
 }
 
 fn first_rivals(alloc: Global, mentions: &[NamedMention]) -> Result<Rivals, AllocError>
     ensures { IfOk result (λ r. AreRivals r
-        (flat_map (λ m. flat_map person_keys (take 1 m.names)) mentions.now)) }
+        (flat_map (λ m. flat_map person_keys (take 1 (names_asking m))) mentions.now)) }
 {
     let mut rivals = BTreeMap::new(alloc);
     for mention in mentions {
-        add_first(alloc, &mut rivals, mention.names.as_slice())?;
+        add_first(alloc, &mut rivals, names_asking(mention))?;
     }
     Ok(rivals)
 }
 
-/// The persons of all mentions.
+/// The persons of all mentions that occur.
 pub(crate) fn persons_of(alloc: Global, mentions: &[NamedMention]) -> Result<Document, AllocError>
     ensures { IfOk result (λ d. KnowsDocument d mentions.now) }
 {

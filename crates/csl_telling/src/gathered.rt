@@ -1,9 +1,9 @@
 //! Names that disambiguate mentions of a group. All looks that go on from a node are known by what
 //! they share; so for each name of a mention it is asked whether another one goes on, or ends,
 //! where the names before it lead.
-ghost use Rattle.std.specs.Prelude.{◌≡◌, ◌+◌, ◌<◌, ◌++◌, ◌^◌, IfOk, OnOk, map};
-ghost use Rattle.std.specs.List.{enumerate_from};
-ghost use Rattle.csl_telling.specs.Gathered.{IsGathered, count_at, count_from, count_of, ends_at, ends_of, forms_at, is_end, needs_on, shown_at, shown_by};
+ghost use Rattle.std.specs.Prelude.{◌≡◌, ◌+◌, ◌<◌, ◌++◌, ◌∷◌, [], ◌^◌, IfOk, OnOk, map};
+ghost use Rattle.std.specs.List.{enumerate_from, flat_map};
+ghost use Rattle.csl_telling.specs.Gathered.{IsGathered, asking, count_at, count_from, count_of, ends_at, ends_of, forms_at, is_end, needs_on, shown_at, shown_by};
 ghost use Rattle.csl_telling.specs.Rivals.{TellsMore};
 ghost use Rattle.csl_telling.specs.Telling.{greatest};
 ghost use Rattle.csl_telling.specs.declared.rivals.Node.{Node as NodeValue};
@@ -80,15 +80,33 @@ fn add_ends(ends: &mut IndexSet<Node>, way: &Way) -> Result<(), AllocError>
     Ok(())
 }
 
-/// All that is shown on these ways.
+/// Adds all that is shown on a way, and where it ends, if its mention occurs.
+fn add_if_it_occurs(
+    alloc: Global,
+    beside: &mut Rivals,
+    ends: &mut IndexSet<Node>,
+    way: &Way,
+) -> Result<(), AllocError>
+    ensures beside { OnOk result
+        (TellsMore beside.old beside.new (flat_map shown_by (asking (way.now ∷ [])))) }
+    ensures ends { OnOk result ((n : NodeValue) → is_end n ends.new.keys
+        ≡ is_end n (ends.old.keys ++ flat_map ends_of (asking (way.now ∷ [])))) }
+{
+    if !way.occurs {
+        return Ok(());
+    }
+    add_way(alloc, beside, way)?;
+    add_ends(ends, way)
+}
+
+/// All that is shown on the ways of the mentions that occur.
 pub(crate) fn gather(alloc: Global, ways: &[Way]) -> Result<Gathered, AllocError>
-    ensures { IfOk result (λ g. IsGathered g ways.now) }
+    ensures { IfOk result (λ g. IsGathered g (asking ways.now)) }
 {
     let mut beside = BTreeMap::new(alloc);
     let mut ends = IndexSet::new(alloc);
     for way in ways {
-        add_way(alloc, &mut beside, way)?;
-        add_ends(&mut ends, way)?;
+        add_if_it_occurs(alloc, &mut beside, &mut ends, way)?;
     }
     Ok(Gathered { beside, ends })
 }

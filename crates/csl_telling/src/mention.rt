@@ -21,7 +21,9 @@ pub struct NamedMention {
     pub adds_names: bool,
     /// The rule by which its style adds given names, if it does.
     pub rule: Option<DisambiguationRule>,
-    /// The index of the first mention of its ambiguous group among all mentions; none where it is
-    /// in no such group.
+    /// The index, among all mentions, of the one whose style says what its ambiguous group may do;
+    /// none where it is in no such group.
     pub group: Option<usize>,
+    /// Whether some cite reads so: mentions needn't differ from one that doesn't occur.
+    pub occurs: bool,
 }

@@ -25,6 +25,8 @@ pub struct Reach {
     pub by_cite: bool,
     /// The looks of the names, each in its greatest form.
     pub looks: Seq<Look>,
+    /// Whether the mention occurs.
+    pub occurs: bool,
 }
 
 fn is_by_cite(rule: Option<DisambiguationRule>) -> bool
@@ -101,7 +103,7 @@ fn looks_in(
     Ok(looks)
 }
 
-/// The first mention of the group that this one is in.
+/// The mention that leads the group that this one is in.
 fn first_member<'m>(
     mentions: &'m [NamedMention],
     mention: &NamedMention,
@@ -136,12 +138,14 @@ pub(crate) fn reach_of(
                 group: mention.group,
                 by_cite,
                 looks: Seq::new(looks),
+                occurs: mention.occurs,
             })
         }
         None => Ok(Reach {
             group: mention.group,
             by_cite: false,
             looks: Seq::new(Vec::new(alloc)),
+            occurs: mention.occurs,
         }),
     }
 }

@@ -35,6 +35,8 @@ pub(crate) struct Way {
     pub(crate) by_cite: bool,
     /// From before the first name to behind the last one; none where the mention is in no group.
     pub(crate) stops: Seq<Stop>,
+    /// Whether the mention occurs.
+    pub(crate) occurs: bool,
 }
 
 /// The stops on the way of these looks.
@@ -82,6 +84,7 @@ fn way_of(alloc: Global, steps: &mut OrderedSet<Step>, reach: &Reach) -> Result<
     Ok(Way {
         by_cite: reach.by_cite,
         stops: Seq::new(stops),
+        occurs: reach.occurs,
     })
 }
 

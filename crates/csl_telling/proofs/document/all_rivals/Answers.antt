@@ -1,6 +1,7 @@
 use Rattle.std.proofs.Common.{subst}
 use Rattle.std.specs.List.{flat_map}
 use Rattle.csl_telling.specs.Known.{person_keys}
+use Rattle.csl_telling.specs.Persons.{names_asking}
 use Rattle.csl_telling.specs.Rivals.{TellsMore}
 use Rattle.csl_telling.proofs.Beside.{none-yet}
 use Rattle.csl_telling.proofs.Stepping.{rivals-next}
@@ -11,6 +12,6 @@ loop-mention-init c = none-yet c.new-rivals.result c.new-rivals.ensures.empty
 
 pub loop-mention-preserved : goal.loop-mention-preserved
 loop-mention-preserved c =
-    rivals-next c.args.mentions.now c.loop-mention.mention-index c.mention-item.result c.loop-mention-test.true c.mention-item.is (λ m. flat_map person_keys m.names)
+    rivals-next c.args.mentions.now c.loop-mention.mention-index c.mention-item.result c.loop-mention-test.true c.mention-item.is (λ m. flat_map person_keys (names_asking m))
     c.loop-mention.rivals c.add_names.new.rivals c.loop-mention.invariant
-    (subst (λ ns. TellsMore c.loop-mention.rivals c.add_names.new.rivals (flat_map person_keys ns)) c.as_slice.ensures c.in_ok-add_names.ensures)
+    (subst (λ ns. TellsMore c.loop-mention.rivals c.add_names.new.rivals (flat_map person_keys ns)) c.names_asking.ensures c.in_ok-add_names.ensures)

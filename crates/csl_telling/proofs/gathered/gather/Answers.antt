@@ -1,5 +1,4 @@
-use Rattle.csl_telling.specs.Gathered.{shown_by}
-use Rattle.csl_telling.proofs.Stepping.{ends-next, rivals-next}
+use Rattle.csl_telling.proofs.Stepping.{asked-next, ends-next}
 use Rattle.csl_telling.proofs.gathered.gather.Goals as goal
 
 pub loop-way-preserved : goal.loop-way-preserved
@@ -8,6 +7,6 @@ loop-way-preserved c =
     let k = c.loop-way.way-index in
     let w = c.way-item.result in
     record {
-      beside = rivals-next ways k w c.loop-way-test.true c.way-item.is shown_by c.loop-way.beside c.add_way.new.beside c.loop-way.invariant.beside c.in_ok-add_way.ensures;
-      ends = ends-next ways k w c.loop-way-test.true c.way-item.is c.loop-way.ends.keys c.add_ends.new.ends.keys c.loop-way.invariant.ends c.in_ok-add_ends.ensures;
+      beside = asked-next ways k w c.loop-way-test.true c.way-item.is c.loop-way.beside c.add_if_it_occurs.new.beside c.loop-way.invariant.beside c.in_ok-add_if_it_occurs.ensures.beside;
+      ends = ends-next ways k w c.loop-way-test.true c.way-item.is c.loop-way.ends.keys c.add_if_it_occurs.new.ends.keys c.loop-way.invariant.ends c.in_ok-add_if_it_occurs.ensures.ends;
     }
