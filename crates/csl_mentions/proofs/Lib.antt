@@ -1,4 +1,6 @@
 pub mod Classing
 pub mod Stepping
+pub mod Reading
+pub mod Suffixing
 pub mod Numbering
 pub mod Naming

@@ -1,6 +1,6 @@
 //! What is known of the mentions that have a text.
-ghost use Rattle.std.specs.Prelude.{◌≡◌, ◌++◌, ◌∷◌, [], List, OnOk, Some, length, option_map};
-ghost use Rattle.csl_mentions.specs.Classes.{AreClassesOf, class_at, class_with, first_if, group_found, is_other, joined};
+ghost use Rattle.std.specs.Prelude.{◌≡◌, ◌++◌, ◌∷◌, ℕ, [], List, OnOk, Some, filter, option_map};
+ghost use Rattle.csl_mentions.specs.Classes.{AreClassesOf, class_at, class_with, does_occur, first_if, group_found, is_other, joined, several_in};
 ghost use Rattle.csl_mentions.specs.declared.mention.Mention.{Mention as MentionValue};
 
 use crate::mention::Mention;
@@ -49,12 +49,26 @@ fn class_with(classes: &Classes, k: usize, mention: &Mention) -> Class
 
 /// Adds the mention at index `k`.
 pub(crate) fn add(classes: &mut Classes, k: usize, mention: &Mention) -> Result<(), AllocError>
-    ensures { OnOk result ((before : List MentionValue) → length before ≡ k
-        → AreClassesOf classes.old before
-        → AreClassesOf classes.new (before ++ mention.now ∷ [])) }
+    ensures { OnOk result ((before : List (ℕ × MentionValue)) → AreClassesOf classes.old before
+        → AreClassesOf classes.new (before ++ (k, mention.now) ∷ [])) }
 {
     let class = class_with(classes, k, mention);
     classes.insert(mention.text.clone()?, class)?;
+    Ok(())
+}
+
+/// Adds the mention at index `k`, if it occurs.
+pub(crate) fn add_if_it_occurs(
+    classes: &mut Classes,
+    k: usize,
+    mention: &Mention,
+) -> Result<(), AllocError>
+    ensures { OnOk result ((before : List (ℕ × MentionValue)) → AreClassesOf classes.old before
+        → AreClassesOf classes.new (before ++ filter does_occur ((k, mention.now) ∷ []))) }
+{
+    if mention.occurs {
+        add(classes, k, mention)?;
+    }
     Ok(())
 }
 
@@ -68,22 +82,39 @@ pub(crate) fn first_of(classes: &Classes, mention: &Mention) -> Option<usize>
     }
 }
 
-/// The index of the first mention with this one's text, where another entry is mentioned by it.
-pub(crate) fn group_found(classes: &Classes, mention: &Mention) -> Option<usize>
-    ensures { result ≡ group_found classes.now mention.now }
+/// Whether mentions of several entries have this one's text.
+pub(crate) fn are_several(classes: &Classes, mention: &Mention) -> bool
+    ensures { result ≡ several_in (class_at classes.now mention.now.text) }
 {
     match classes.get(&mention.text) {
-        Some(class) => first_if_other(class, mention.entry),
+        Some(class) => class.several,
+        None => false,
+    }
+}
+
+/// The index of the first mention with this one's text that occurs, or else of the first one, where
+/// another entry is mentioned by it.
+pub(crate) fn group_found(
+    classes: &Classes,
+    occurring: &Classes,
+    mention: &Mention,
+) -> Option<usize>
+    ensures { result ≡ group_found classes.now occurring.now mention.now }
+{
+    match classes.get(&mention.text) {
+        Some(class) => first_if_other(class, first_of(occurring, mention), mention.entry),
         None => None,
     }
 }
 
-/// The index of the first mention of a class, where another entry than this one is mentioned.
-fn first_if_other(class: &Class, entry: usize) -> Option<usize>
-    ensures { result ≡ first_if (is_other entry (Some class.now)) (Some class.now) }
+/// The index of the leader of a class, where another entry than this one is mentioned. The leader is
+/// the first that occurs, if there is one, and else the first of all.
+fn first_if_other(class: &Class, occurring: Option<usize>, entry: usize) -> Option<usize>
+    ensures { result
+        ≡ first_if (is_other entry (Some class.now)) occurring (Some class.now) }
 {
     if class.several || class.entry != entry {
-        Some(class.first)
+        Some(occurring.unwrap_or(class.first))
     } else {
         None
     }

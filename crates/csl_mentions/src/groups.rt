@@ -1,21 +1,34 @@
 //! Ambiguous groups: mentions that read alike, of several entries.
-ghost use Rattle.std.specs.Prelude.{◌≡◌, IfOk, List, map};
-ghost use Rattle.csl_mentions.specs.Classes.{AreClassesOf};
-ghost use Rattle.csl_mentions.specs.Groups.{group_of, has_text, text_of};
+ghost use Rattle.std.specs.Prelude.{◌≡◌, IfOk, List, filter, map};
+ghost use Rattle.std.specs.List.{enumerate_from};
+ghost use Rattle.csl_mentions.specs.Classes.{AreClassesOf, does_occur};
+ghost use Rattle.csl_mentions.specs.Groups.{group_of, has_text, is_asked, text_of};
 ghost use Rattle.csl_mentions.specs.declared.mention.Mention.{Mention as MentionValue};
 
-use crate::classes::{Classes, add, first_of, group_found};
+use crate::classes::{Classes, add, add_if_it_occurs, are_several, first_of, group_found};
 use crate::mention::Mention;
 use std::alloc::{AllocError, Global};
 use std::collections::BTreeMap;
 
 /// The mentions by their texts.
-pub(crate) fn classes_of(alloc: Global, mentions: &[Mention]) -> Result<Classes, AllocError>
-    ensures { IfOk result (λ c. AreClassesOf c mentions.now) }
+fn classes_of(alloc: Global, mentions: &[Mention]) -> Result<Classes, AllocError>
+    ensures { IfOk result (λ c. AreClassesOf c (enumerate_from 0 mentions.now)) }
 {
     let mut classes = BTreeMap::new(alloc);
     for (k, mention) in mentions.iter().enumerate() {
         add(&mut classes, k, mention)?;
+    }
+    Ok(classes)
+}
+
+/// Those that occur, by their texts.
+fn occurring_of(alloc: Global, mentions: &[Mention]) -> Result<Classes, AllocError>
+    ensures { IfOk result (λ c. AreClassesOf c
+        (filter does_occur (enumerate_from 0 mentions.now))) }
+{
+    let mut classes = BTreeMap::new(alloc);
+    for (k, mention) in mentions.iter().enumerate() {
+        add_if_it_occurs(&mut classes, k, mention)?;
     }
     Ok(classes)
 }
@@ -28,12 +41,13 @@ fn has_text(mention: &Mention) -> bool
 }
 
 /// The group of a mention among those that the classes are of.
-pub(crate) fn group_among(classes: &Classes, mention: &Mention) -> Option<usize>
-    ensures { (mentions : List MentionValue) → AreClassesOf classes.now mentions
+fn group_among(classes: &Classes, occurring: &Classes, mention: &Mention) -> Option<usize>
+    ensures { (mentions : List MentionValue) → AreClassesOf classes.now (enumerate_from 0 mentions)
+        → AreClassesOf occurring.now (filter does_occur (enumerate_from 0 mentions))
         → result ≡ group_of mentions mention.now }
 {
     if has_text(mention) {
-        group_found(classes, mention)
+        group_found(classes, occurring, mention)
     } else {
         None
     }
@@ -41,7 +55,7 @@ pub(crate) fn group_among(classes: &Classes, mention: &Mention) -> Option<usize>
 
 /// What a mention reads as among those that the classes are of.
 fn text_among(classes: &Classes, mention: &Mention) -> Option<usize>
-    ensures { (mentions : List MentionValue) → AreClassesOf classes.now mentions
+    ensures { (mentions : List MentionValue) → AreClassesOf classes.now (enumerate_from 0 mentions)
         → result ≡ text_of mentions mention.now }
 {
     if has_text(mention) {
@@ -49,6 +63,15 @@ fn text_among(classes: &Classes, mention: &Mention) -> Option<usize>
     } else {
         None
     }
+}
+
+/// Whether mentions of two entries occur that read as this one does.
+fn is_asked_among(occurring: &Classes, mention: &Mention) -> bool
+    ensures { (mentions : List MentionValue)
+        → AreClassesOf occurring.now (filter does_occur (enumerate_from 0 mentions))
+        → result ≡ is_asked mentions mention.now }
+{
+    has_text(mention) && are_several(occurring, mention)
 }
 
 /// What mentions read as: for each whose text is not empty, the index of the first one with its
@@ -70,7 +93,7 @@ pub fn texts_of(alloc: Global, mentions: &[Mention]) -> Result<Vec<Option<usize>
 
 /// The ambiguous groups of a document's mentions (CSL 1.0.2, disambiguation): for each mention
 /// whose text is not empty, and is also that of a mention of another entry, the index of the
-/// first mention with its text.
+/// first mention that occurs with its text, or else of the first one.
 ///
 /// # Errors
 ///
@@ -79,9 +102,27 @@ pub fn groups_of(alloc: Global, mentions: &[Mention]) -> Result<Vec<Option<usize
     ensures { IfOk result (λ v. v.items ≡ map (group_of mentions.now) mentions.now) }
 {
     let classes = classes_of(alloc, mentions)?;
+    let occurring = occurring_of(alloc, mentions)?;
     let mut found = Vec::with_capacity(alloc, mentions.len())?;
     for mention in mentions {
-        found.push(group_among(&classes, mention))?;
+        found.push(group_among(&classes, &occurring, mention))?;
     }
     Ok(found)
+}
+
+/// Which of a document's mentions are asked to differ: those whose text is not empty, and is that
+/// of mentions of two entries that occur.
+///
+/// # Errors
+///
+/// Where memory is refused.
+pub fn asked_of(alloc: Global, mentions: &[Mention]) -> Result<Vec<bool>, AllocError>
+    ensures { IfOk result (λ v. v.items ≡ map (is_asked mentions.now) mentions.now) }
+{
+    let occurring = occurring_of(alloc, mentions)?;
+    let mut asked = Vec::with_capacity(alloc, mentions.len())?;
+    for mention in mentions {
+        asked.push(is_asked_among(&occurring, mention))?;
+    }
+    Ok(asked)
 }

@@ -3,8 +3,10 @@
 #![tactic(auto)]
 
 mod classes;
+mod counted;
 pub mod groups;
 pub mod mention;
+mod readings;
 pub mod state;
 pub mod suffixes;
 pub mod written;

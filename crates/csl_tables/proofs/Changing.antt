@@ -1,6 +1,5 @@
 -- Lists changed from their beginnings on, one more member.
-use Rattle.std.proofs.Common.{◌≡◌, ℕ, zero, suc, ◌+◌, ◌<◌, ◌≤◌, Bool, ◌&&◌, Option, List, [], ◌∷◌, ◌++◌, length, map, take, get_or, refl, ap, sym, subst, ◌∙◌, arith, add-one}
-use Rattle.std.specs.Prelude.{is_some}
+use Rattle.std.proofs.Common.{◌≡◌, ℕ, zero, suc, ◌+◌, ◌<◌, ◌≤◌, Bool, ◌&&◌, List, [], ◌∷◌, ◌++◌, length, map, take, get_or, refl, ap, sym, subst, ◌∙◌, arith, add-one}
 use Rattle.std.specs.List.{zip}
 use Rattle.std.proofs.Math.ListN.{set}
 use Rattle.std.proofs.lemmas.List.{get_or_default, take_all, take_more}
@@ -73,14 +72,14 @@ pub take-next : {X : Type 0} (k : ℕ) (xs : List X) (x : X) → k < length xs �
 take-next k xs x w h = take_more xs k x w ∙ ap (λ y. take k xs ++ y ∷ []) (sym h)
 
 -- states chosen one after another
-pub chosen-more : (k : ℕ) (tested : List Bool) (groups : List (Option ℕ)) (states now : List MentionState) (t u : Bool) (g h : Option ℕ) (d y : MentionState) (r : Bool)
-    → now ≡ all_changed chosen_by (take k (zip tested groups)) states → k < length states → length states ≡ length tested → length states ≡ length groups → t ≡ get_or tested k u → g ≡ get_or groups k h
-    → r ≡ (t && is_some g) → y ≡ record (get_or now k d) { chosen = r } → set now k y ≡ all_changed chosen_by (take (k + 1) (zip tested groups)) states
-chosen-more k tested groups states now t u g h d y r so_far within long_tested long_groups is_tested is_group is_one is_made =
+pub chosen-more : (k : ℕ) (tested asked : List Bool) (states now : List MentionState) (t u g h : Bool) (d y : MentionState) (r : Bool)
+    → now ≡ all_changed chosen_by (take k (zip tested asked)) states → k < length states → length states ≡ length tested → length states ≡ length asked → t ≡ get_or tested k u → g ≡ get_or asked k h
+    → r ≡ (t && g) → y ≡ record (get_or now k d) { chosen = r } → set now k y ≡ all_changed chosen_by (take (k + 1) (zip tested asked)) states
+chosen-more k tested asked states now t u g h d y r so_far within long_tested long_asked is_tested is_asked is_one is_made =
     let w : k < length tested = omega arith in
-    let v : k < length groups = omega arith in
-    let same : length tested ≡ length groups = omega arith in
-    let both : k < length (zip tested groups) = subst (λ n. k < n) (sym (zip-length tested groups same)) w in
-    changed-more chosen_by k (zip tested groups) states now (t, g) (t, g) d y so_far both within
-    (zip-at k tested groups t g w v (is_tested ∙ get_or_default tested k u t w) (is_group ∙ get_or_default groups k h g v))
+    let v : k < length asked = omega arith in
+    let same : length tested ≡ length asked = omega arith in
+    let both : k < length (zip tested asked) = subst (λ n. k < n) (sym (zip-length tested asked same)) w in
+    changed-more chosen_by k (zip tested asked) states now (t, g) (t, g) d y so_far both within
+    (zip-at k tested asked t g w v (is_tested ∙ get_or_default tested k u t w) (is_asked ∙ get_or_default asked k h g v))
     (is_made ∙ (λ i. record (get_or now k d) { chosen = is_one i }))

@@ -1,11 +1,11 @@
 -- The tables of all mentions, from what the code makes one after another.
 use Rattle.std.proofs.Common.{◌≡◌, ℕ, suc, Bool, true, false, cond, ◌&&◌, Some, None, Option, List, [], ◌∷◌, ◌++◌, filter, length, map, refl, ap, sym, ◌∙◌}
-use Rattle.std.specs.Prelude.{flat_map, is_some}
+use Rattle.std.specs.Prelude.{flat_map}
 use Rattle.std.specs.List.{zip}
 use Rattle.csl_telling.specs.Told.{told_by_names}
 use Rattle.csl_telling.specs.declared.mention.NamedMention.{NamedMention}
 use Rattle.csl_values.specs.declared.names.NameDisambiguationProperties.{NameDisambiguationProperties}
-use Rattle.csl_mentions.specs.Groups.{group_of, is_ambiguous}
+use Rattle.csl_mentions.specs.Groups.{group_of, is_asked}
 use Rattle.csl_mentions.specs.declared.mention.Mention.{Mention}
 use Rattle.csl_mentions.specs.declared.state.MentionState.{MentionState}
 use Rattle.csl_mentions.specs.declared.written.Written.{Written}
@@ -16,7 +16,6 @@ use Rattle.csl_tables.specs.declared.changed.Changed.{Changed}
 use Rattle.csl_tables.specs.declared.subject.Subject.{Subject}
 use Rattle.std.proofs.Math.ListN.{length-map}
 use Rattle.csl_tables.proofs.Changing.{zip-length}
-use Rattle.csl_tables.proofs.Groups.{in-group}
 
 -- what is asked for
 pub tasks-are : {M : Type 0} (by : Changed) (ps : List (Subject M × MentionState)) → flat_map (tasks_of by) ps ≡ map (λ p. (p.0.mention, p.1)) (filter (λ p. is_changed by p.1) ps)
@@ -89,12 +88,11 @@ module _ {M : Type 0} (write : M → MentionState → Written) where
     renamed-are (s ∷ ss) = λ i. renamed s (names s) i ∷ renamed-are ss i
 
     -- chosen
-    pub chosen-by : (tested : Subject M → Bool) (group : Mention → Option ℕ) (ambiguous : Mention → Bool) → ((m : Mention) → is_some (group m) ≡ ambiguous m) → (ss : List (Subject M))
-        → all_changed chosen_by (zip (map tested ss) (map group (mentions_in write ss (map (λ s. state_of (names s)) ss)))) (map (λ s. state_of (names s)) ss)
-        ≡ map (λ p. record p.1 { chosen = tested p.0 && ambiguous (mention_in write p.0 p.1) }) (zip ss (map (λ s. state_of (names s)) ss))
-    chosen-by tested group ambiguous same [] = refl
-    chosen-by tested group ambiguous same (s ∷ ss) =
-        λ i. record (state_of (names s)) { chosen = tested s && same (mention_in write s (state_of (names s))) i } ∷ chosen-by tested group ambiguous same ss i
+    pub chosen-by : (tested : Subject M → Bool) (asked : Mention → Bool) (ss : List (Subject M))
+        → all_changed chosen_by (zip (map tested ss) (map asked (mentions_in write ss (map (λ s. state_of (names s)) ss)))) (map (λ s. state_of (names s)) ss)
+        ≡ map (λ p. record p.1 { chosen = tested p.0 && asked (mention_in write p.0 p.1) }) (zip ss (map (λ s. state_of (names s)) ss))
+    chosen-by tested asked [] = refl
+    chosen-by tested asked (s ∷ ss) = ap (λ l. record (state_of (names s)) { chosen = tested s && asked (mention_in write s (state_of (names s))) } ∷ l) (chosen-by tested asked ss)
 
     -- and written again
     rechosen : (s : Subject M) (b : Bool) → rewritten write Changed.Choice (s, record (state_of (names s)) { chosen = b }) (mention_in write s (state_of (names s))) ≡ mention_in write s (record (state_of (names s)) { chosen = b })
@@ -109,14 +107,13 @@ module _ {M : Type 0} (write : M → MentionState → Written) where
 
   -- the third table
   pub third-is : (ss : List (Subject M)) → let mentions = mentions_in write ss (second_table write ss) in
-      all_changed chosen_by (zip (map (λ s. (write s.mention untold).tested) ss) (map (group_of mentions) mentions)) (second_table write ss) ≡ third_table write ss
+      all_changed chosen_by (zip (map (λ s. (write s.mention untold).tested) ss) (map (is_asked mentions) mentions)) (second_table write ss) ≡ third_table write ss
   third-is ss =
-      chosen-by (λ s. told_by_names (map (named write ss) ss) (named write ss s)) (λ s. (write s.mention untold).tested) (group_of (mentions_in write ss (second_table write ss)))
-      (is_ambiguous (mentions_in write ss (second_table write ss))) (in-group (mentions_in write ss (second_table write ss))) ss
+      chosen-by (λ s. told_by_names (map (named write ss) ss) (named write ss s)) (λ s. (write s.mention untold).tested) (is_asked (mentions_in write ss (second_table write ss))) ss
 
   pub third-mentions : (ss : List (Subject M)) → all_changed (rewritten write Changed.Choice) (zip ss (third_table write ss)) (mentions_in write ss (second_table write ss)) ≡ mentions_in write ss (third_table write ss)
   third-mentions ss =
-      rechosen-are (λ s. told_by_names (map (named write ss) ss) (named write ss s)) (λ s state. (write s.mention untold).tested && is_ambiguous (mentions_in write ss (second_table write ss)) (mention_in write s state)) ss
+      rechosen-are (λ s. told_by_names (map (named write ss) ss) (named write ss s)) (λ s state. (write s.mention untold).tested && is_asked (mentions_in write ss (second_table write ss)) (mention_in write s state)) ss
 
   module _ {K : Type 0} (keep : M → MentionState → K) where
     pub second-kept : (ss : List (Subject M)) → all_changed (rekept keep Changed.Names) (zip ss (second_table write ss)) (map (λ s. None) ss) ≡ kept_again keep ss (second_table write ss)
@@ -124,7 +121,7 @@ module _ {M : Type 0} (write : M → MentionState → Written) where
 
     pub third-kept : (ss : List (Subject M)) → all_changed (rekept keep Changed.Choice) (zip ss (third_table write ss)) (kept_again keep ss (second_table write ss)) ≡ kept_again keep ss (third_table write ss)
     third-kept ss =
-        rechosen-are-kept keep (λ s. told_by_names (map (named write ss) ss) (named write ss s)) (λ s state. (write s.mention untold).tested && is_ambiguous (mentions_in write ss (second_table write ss)) (mention_in write s state)) ss
+        rechosen-are-kept keep (λ s. told_by_names (map (named write ss) ss) (named write ss s)) (λ s state. (write s.mention untold).tested && is_asked (mentions_in write ss (second_table write ss)) (mention_in write s state)) ss
 
     pub kept-length : (ss : List (Subject M)) (table : List MentionState) → length ss ≡ length table → length ss ≡ length (kept_again keep ss table)
     kept-length ss table h = sym (length-map (zip ss table) (λ p. kept_in keep p.0 p.1) ∙ zip-length ss table h)

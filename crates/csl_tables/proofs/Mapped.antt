@@ -1,5 +1,5 @@
 -- Where something else is asked for: tables, and what is asked for.
-use Rattle.std.proofs.Common.{◌≡◌, Bool, true, false, cond, not, List, [], ◌∷◌, ◌++◌, filter, map, refl, ap, sym, ◌∙◌}
+use Rattle.std.proofs.Common.{◌≡◌, Bool, true, false, cond, List, [], ◌∷◌, ◌++◌, filter, map, refl, ap, sym, ◌∙◌}
 use Rattle.std.specs.Prelude.{is_some}
 use Rattle.std.specs.List.{zip}
 use Rattle.std.proofs.lemmas.List.{map-append}
@@ -75,7 +75,7 @@ module _ {M N : Type 0} (f : M → N) where
       texts-mapped = ap (λ ms. map (text_of ms) ms) told-mapped
 
       pub suffixes-mapped : year_suffixes write ss ≡ year_suffixes other (map (with_mention f) ss)
-      suffixes-mapped = ap (λ ms. suffixes (filter (λ m. not m.is_first) ms)) told-mapped
+      suffixes-mapped = ap suffixes told-mapped
 
       pub tasks-mapped : map (task_as f) (all_tasks write ss) ≡ all_tasks other (map (with_mention f) ss)
       tasks-mapped =

@@ -20,9 +20,9 @@ all_changed f _ xs = xs
 abbrev pub in_group : Option ℕ → NamedMention → NamedMention
 in_group group m = record m { group = group }
 
--- the state of a mention that tested the condition or didn't, and is in a group or in none
-abbrev pub chosen_by : Bool × Option ℕ → MentionState → MentionState
-chosen_by p s = record s { chosen = p.0 && is_some p.1 }
+-- the state of a mention that tested the condition or didn't, and is asked to differ or isn't
+abbrev pub chosen_by : Bool × Bool → MentionState → MentionState
+chosen_by p s = record s { chosen = p.0 && p.1 }
 
 -- names as a state
 abbrev pub state_of : Option NameDisambiguationProperties → MentionState

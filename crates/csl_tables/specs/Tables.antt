@@ -1,6 +1,6 @@
 -- What tells the mentions of all entries apart: by names, then by the condition, then by year
 -- suffixes, each once.
-use Rattle.std.specs.Prelude.{ℕ, Bool, false, not, List, ◌++◌, None, Option, Some, filter, is_some, map, if◌then◌else◌}
+use Rattle.std.specs.Prelude.{ℕ, Bool, false, List, ◌++◌, None, Option, Some, filter, is_some, map, if◌then◌else◌}
 use Rattle.std.specs.List.{zip}
 use Rattle.csl_telling.specs.Told.{told_by_names}
 use Rattle.csl_telling.specs.declared.mention.MentionedName.{MentionedName}
@@ -19,6 +19,7 @@ with_mention f s = record {
   mention = f s.mention;
   entry = s.entry;
   is_first = s.is_first;
+  occurs = s.occurs;
   adds_names = s.adds_names;
   rule = s.rule;
   adds_suffix = s.adds_suffix;
@@ -30,6 +31,7 @@ module _ {M : Type 0} where
   mention_with s text = record {
     entry = s.entry;
     is_first = s.is_first;
+    occurs = s.occurs;
     text = text;
     adds_suffix = s.adds_suffix;
   }
@@ -41,6 +43,7 @@ module _ {M : Type 0} where
     adds_names = s.adds_names;
     rule = s.rule;
     group = group;
+    occurs = s.occurs;
   }
 
 module _ {M : Type 0} (write : M → MentionState → Written) where
@@ -97,7 +100,8 @@ module _ {M : Type 0} (write : M → MentionState → Written) (subjects : List 
   abbrev pub second_table : List MentionState
   second_table = map with_names subjects
 
-  -- in the third the condition holds for a mention that tested it, in a group of the second
+  -- in the third the condition holds for a mention that tested it, where its group in the second
+  -- is asked to differ
   abbrev pub with_choice : Subject M → MentionState → MentionState
   with_choice s state = record state {
     chosen = is_chosen (mentions_in write subjects second_table) (write s.mention untold).tested
@@ -115,9 +119,9 @@ module _ {M : Type 0} (write : M → MentionState → Written) (subjects : List 
   abbrev pub texts_told : List (Option ℕ)
   texts_told = map (text_of mentions_told) mentions_told
 
-  -- the year suffix of each entry, in the order of the bibliography, by the later mentions
+  -- the year suffix of each entry, in the order of the bibliography
   abbrev pub year_suffixes : List (Option ℕ)
-  year_suffixes = suffixes (filter (λ m. not m.is_first) mentions_told)
+  year_suffixes = suffixes mentions_told
 
   -- all that is written: each mention is once, and again where it has other names, and where it
   -- is chosen

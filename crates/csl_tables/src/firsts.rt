@@ -79,6 +79,7 @@ fn add_first<M, K: Drop>(
     firsts.mentions.push(Mention {
         entry: subject.entry,
         is_first: subject.is_first,
+        occurs: subject.occurs,
         text,
         adds_suffix: subject.adds_suffix,
     })?;
@@ -87,6 +88,7 @@ fn add_first<M, K: Drop>(
         adds_names: subject.adds_names,
         rule: subject.rule,
         group: None,
+        occurs: subject.occurs,
     })?;
     firsts.tested.push(tested)?;
     firsts.kept.push(kept)?;

@@ -10,6 +10,8 @@ pub struct Subject<M> {
     pub entry: usize,
     /// Whether it is the first mention of its entry; else it is the later one.
     pub is_first: bool,
+    /// Whether some cite is of this kind; others needn't differ from a mention that doesn't occur.
+    pub occurs: bool,
     /// Whether its style adds names.
     pub adds_names: bool,
     /// The rule by which its style adds given names, if it does.

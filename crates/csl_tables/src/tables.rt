@@ -1,5 +1,5 @@
 //! The tables of all mentions, one after another (CSL 1.0.2, disambiguation).
-ghost use Rattle.std.specs.Prelude.{◌≡◌, ◌++◌, IfOk, OnOk, filter, is_some, map, not};
+ghost use Rattle.std.specs.Prelude.{◌≡◌, ◌++◌, IfOk, OnOk, is_some, map};
 ghost use Rattle.csl_tables.specs.Asked.{asked_for, keeping, reading, untold};
 ghost use Rattle.csl_mentions.specs.Groups.{text_of};
 ghost use Rattle.csl_mentions.specs.Suffixes.{suffixes};
@@ -17,7 +17,7 @@ ghost use Rattle.csl_tables.specs.Tables.{
 };
 
 use crate::changed::{Changed, write_changed};
-use crate::chosen::{choose, laters};
+use crate::chosen::choose;
 use crate::firsts::{Firsts, write_firsts};
 use crate::named::told_by_names;
 use crate::subject::Subject;
@@ -49,9 +49,10 @@ pub struct Told<K> {
 ///
 /// Each is written where nothing disambiguates it; those of several entries that read alike are
 /// disambiguated by their names. Those that get other names are written again with these; the
-/// condition `disambiguate` holds for those that tested it and still read as one of another
-/// entry. They are written once more, and entries whose later mentions read alike then get year
-/// suffixes. Nothing else is written.
+/// condition `disambiguate` holds for those that tested it and still read as two entries do in
+/// cites. They are written once more, and entries whose later mentions read alike then, and that
+/// still read alike in cites, get year suffixes. Nothing else is written, and a mention that
+/// doesn't occur asks for nothing.
 ///
 /// # Errors
 ///
@@ -173,11 +174,10 @@ fn tell_by_names<W, C, M: WrittenBy<W, C>>(
     })
 }
 
-/// The states of mentions and their texts, and the year suffixes by the later ones.
+/// The states of mentions and their texts, and the year suffixes.
 fn with_suffixes<K: Drop>(alloc: Global, named: Named<K>) -> Result<Told<K>, AllocError>
     ensures states { IfOk result (λ t. t.states.items ≡ named.states.items) }
-    ensures suffixes { IfOk result (λ t. t.suffixes.items
-        ≡ suffixes (filter (λ m. not m.is_first) named.mentions.items)) }
+    ensures suffixes { IfOk result (λ t. t.suffixes.items ≡ suffixes named.mentions.items) }
     ensures texts { IfOk result (λ t. t.texts.items
         ≡ map (text_of named.mentions.items) named.mentions.items) }
     ensures firsts { IfOk result (λ t. t.firsts ≡ named.firsts) }
@@ -191,8 +191,7 @@ fn with_suffixes<K: Drop>(alloc: Global, named: Named<K>) -> Result<Told<K>, All
         again,
     } = named;
     let texts = texts_of(alloc, &mentions)?;
-    let laters = laters(alloc, mentions)?;
-    let suffixes = suffixes_of(alloc, &laters)?;
+    let suffixes = suffixes_of(alloc, &mentions)?;
     Ok(Told {
         states,
         suffixes,

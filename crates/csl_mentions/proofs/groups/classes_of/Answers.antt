@@ -1,8 +1,8 @@
-use Rattle.std.proofs.Common.{arith, subst, sym, take}
-use Rattle.std.proofs.lemmas.List.{length-take-le}
+use Rattle.std.proofs.Common.{subst, sym, take}
+use Rattle.std.specs.List.{enumerate_from}
 use Rattle.csl_mentions.specs.Classes.{AreClassesOf}
 use Rattle.csl_mentions.proofs.Classing.{none-yet}
-use Rattle.csl_mentions.proofs.Stepping.{next}
+use Rattle.csl_mentions.proofs.Stepping.{enumerate-all, enumerate-next}
 use Rattle.csl_mentions.proofs.groups.classes_of.Goals as goal
 
 pub loop-k-init : goal.loop-k-init
@@ -12,5 +12,8 @@ pub loop-k-preserved : goal.loop-k-preserved
 loop-k-preserved c =
     let ms = c.args.mentions.now in
     let k = c.loop-k.k in
-    subst (AreClassesOf c.add.new.classes) (sym (next ms k c.index-mentions-k.result c.loop-k-test.true c.index-mentions-k.is))
-    (c.in_ok-add.ensures (take k ms) (length-take-le k ms (omega arith)) c.loop-k.invariant)
+    subst (AreClassesOf c.add.new.classes) (sym (enumerate-next ms k c.index-mentions-k.result c.loop-k-test.true c.index-mentions-k.is))
+    (c.in_ok-add.ensures (take k (enumerate_from 0 ms)) c.loop-k.invariant)
+
+pub returns : goal.returns
+returns c = subst (AreClassesOf c.loop-k.classes) (enumerate-all c.args.mentions.now c.loop-k.k c.loop-k-test.false) c.loop-k.invariant

@@ -4,4 +4,4 @@ use Rattle.csl_tables.specs.Steps.{all_changed, chosen_by}
 use Rattle.csl_tables.proofs.chosen.choose_in.Given as goal
 
 abbrev pub invariant-loop-k : goal.invariant-loop-k
-invariant-loop-k l = l.states ≡ all_changed chosen_by (take l.k (zip l.tested l.groups)) l.initial.states
+invariant-loop-k l = l.states ≡ all_changed chosen_by (take l.k (zip l.tested l.asked)) l.initial.states

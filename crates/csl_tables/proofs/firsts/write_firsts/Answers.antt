@@ -31,9 +31,9 @@ loop-subject-preserved g c =
           let written = c.in_ok-written.ensures.written way ok ∙ (λ i. same i s.mention untold) in
           record {
             mentions = pushed-next subjects k s within here (λ s. mention_in (reading (w0 way)) s untold) old.mentions.items new.mentions.items _ so_far.mentions added.mentions
-                (λ i. record { entry = s.entry; is_first = s.is_first; text = (written i).read.text; adds_suffix = s.adds_suffix });
+                (λ i. record { entry = s.entry; is_first = s.is_first; occurs = s.occurs; text = (written i).read.text; adds_suffix = s.adds_suffix });
             named = pushed-next subjects k s within here (named_in (reading (w0 way)) None) old.named.items new.named.items _ so_far.named added.named
-                (λ i. record { names = (written i).read.names; adds_names = s.adds_names; rule = s.rule; group = None });
+                (λ i. record { names = (written i).read.names; adds_names = s.adds_names; rule = s.rule; group = None; occurs = s.occurs });
             tested = pushed-next subjects k s within here (λ s. (reading (w0 way) s.mention untold).tested) old.tested.items new.tested.items _ so_far.tested added.tested (ap (λ w. w.read.tested) written);
             kept = pushed-next subjects k s within here (λ s. first_kept (w0 way) s.mention) old.kept.items new.kept.items _ so_far.kept added.kept (ap (λ w. w.kept) written);
             again = pushed-next subjects k s within here (λ s. None) old.again.items new.again.items None so_far.again added.again refl;

@@ -1,8 +1,8 @@
-use Rattle.std.proofs.Common.{ap, filter, length, map, not, sym, zip, ◌++◌, ◌∙◌}
+use Rattle.std.proofs.Common.{ap, length, map, sym, zip, ◌++◌, ◌∙◌}
 use Rattle.std.specs.Prelude.{flat_map, is_some}
 use Rattle.std.proofs.Math.ListN.{length-map}
 use Rattle.std.proofs.lemmas.List.{with_items_is}
-use Rattle.csl_mentions.specs.Groups.{group_of, text_of}
+use Rattle.csl_mentions.specs.Groups.{is_asked, text_of}
 use Rattle.csl_mentions.specs.Suffixes.{suffixes}
 use Rattle.csl_tables.specs.Asked.{asked_for, keeping, reading}
 use Rattle.csl_tables.specs.Steps.{all_changed, chosen_by, rekept, rewritten, tasks_of}
@@ -39,7 +39,7 @@ write_changed-requires g c =
     let ms_are = c.deref.ensures.value ∙ named.mentions some.0 some.1 in
     let tested_are = c.deref-2.ensures.value ∙ named.tested some.0 some.1 in
     let states_are = c.deref_mut.ensures.value ∙ named.states some.0 some.1 in
-    let third = c.in_ok-choose.ensures ∙ (λ i. all_changed chosen_by (zip (tested_are i) (map (group_of (ms_are i)) (ms_are i))) (states_are i)) ∙ third-is (reading w) ss in
+    let third = c.in_ok-choose.ensures ∙ (λ i. all_changed chosen_by (zip (tested_are i) (map (is_asked (ms_are i)) (ms_are i))) (states_are i)) ∙ third-is (reading w) ss in
     let kept = with_items_is c.in_ok-named.named.states c.choose.new.states (c.choose.auto.states ∙ ap length c.deref_mut.ensures.value ∙ sym c.in_ok-named.named.states.ok.0) in
     record {
       states = third-length (reading w) ss ∙ sym (ap length (c.deref-3.ensures.value ∙ kept ∙ third));
@@ -64,7 +64,7 @@ returns g c =
     let tested_are = λ (way : Way) (ok : _). c.deref-2.ensures.value ∙ named.tested way (ok1 way ok) in
     let states_are = λ (way : Way) (ok : _). c.deref_mut.ensures.value ∙ named.states way (ok1 way ok) in
     let third = λ (way : Way) (ok : _). c.in_ok-choose.ensures
-    ∙ (λ i. all_changed chosen_by (zip (tested_are way ok i) (map (group_of (ms_are way ok i)) (ms_are way ok i))) (states_are way ok i)) ∙ third-is (reading (w0 way)) ss in
+    ∙ (λ i. all_changed chosen_by (zip (tested_are way ok i) (map (is_asked (ms_are way ok i)) (ms_are way ok i))) (states_are way ok i)) ∙ third-is (reading (w0 way)) ss in
     let kept = with_items_is c.in_ok-named.named.states c.choose.new.states (c.choose.auto.states ∙ ap length c.deref_mut.ensures.value ∙ sym c.in_ok-named.named.states.ok.0) in
     let told = λ (way : Way) (ok : _). c.deref-3.ensures.value ∙ kept ∙ third way ok in
     let before = λ (way : Way). first_tasks ss ++ tasks_where ss (λ s. is_some s.names) (second_table (reading (w0 way)) ss) in
@@ -82,7 +82,7 @@ returns g c =
       firsts = λ way ok. ap (λ v. v.items) c.in_ok-with_suffixes.ensures.firsts ∙ named.firsts way (ok1 way ok);
       again = λ way ok. ap (λ v. v.items) c.in_ok-with_suffixes.ensures.again ∙ held ∙ lasts way ok;
       states = λ way ok. c.in_ok-with_suffixes.ensures.states ∙ kept ∙ third way ok;
-      suffixes = λ way ok. c.in_ok-with_suffixes.ensures.suffixes ∙ ap (λ ms. suffixes (filter (λ m. not m.is_first) ms)) (read ∙ again way ok);
+      suffixes = λ way ok. c.in_ok-with_suffixes.ensures.suffixes ∙ ap suffixes (read ∙ again way ok);
       texts = λ way ok. c.in_ok-with_suffixes.ensures.texts ∙ ap (λ ms. map (text_of ms) ms) (read ∙ again way ok);
       asked = λ way ok. asked-more (w0 way) (w1 way) (w2 way) (before way) (flat_map (tasks_of Changed.Choice) (zip ss c.deref-3.result.now)) (named.asked way (ok1 way ok)) (c.in_ok-write_changed.ensures.asked way ok)
           ∙ ap (λ ts. asked_for (before way ++ ts) (w0 way)) (ap (λ ts. flat_map (tasks_of Changed.Choice) (zip ss ts)) (told way ok) ∙ tasks-are Changed.Choice (zip ss (third_table (reading (w0 way)) ss)));
