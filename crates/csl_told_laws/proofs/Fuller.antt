@@ -11,7 +11,7 @@ use Rattle.csl_telling.specs.Forms.{base, greater, raised, raised_form, raised_f
 use Rattle.csl_telling.specs.Persons.{own_forms}
 use Rattle.csl_telling.specs.Telling.{names_needed}
 use Rattle.csl_telling.specs.Reaches.{reach}
-use Rattle.csl_telling.specs.Told.{least_form}
+use Rattle.csl_telling.specs.Told.{asking, least_form}
 use Rattle.csl_mentions.specs.declared.state.MentionState.{MentionState}
 use Rattle.csl_mentions.specs.declared.written.Written.{Written}
 use Rattle.csl_tables.specs.Asked.{untold}
@@ -110,4 +110,4 @@ module _ {M : Type 0} (write : M → MentionState → Written) (subjects : List 
       each : (s : Subject M) → HasFullerNames write subjects (s, settled write subjects s)
       each s =
           let ms = map (named write subjects) subjects in
-          fuller (own_forms (write s.mention untold).names) (names_needed (map (reach ms) ms) (reach ms (named write subjects s))) (least_form ms (named write subjects s))
+          fuller (own_forms (write s.mention untold).names) (names_needed (asking ms) (reach ms (named write subjects s))) (least_form ms (named write subjects s))

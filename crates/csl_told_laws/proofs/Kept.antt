@@ -1,17 +1,17 @@
 -- The tables keep all laws.
 use Rattle.std.proofs.Common.{◌≡◌, ℕ, List, map, sym, subst}
 use Rattle.std.specs.List.{range_with_len}
-use Rattle.csl_mentions.specs.Suffixes.{suffixes}
+use Rattle.csl_mentions.specs.Suffixes.{laters, suffixes}
 use Rattle.csl_mentions.specs.declared.mention.Mention.{Mention}
 use Rattle.csl_mentions.specs.declared.state.MentionState.{MentionState}
 use Rattle.csl_mentions.specs.declared.written.Written.{Written}
-use Rattle.csl_tables.specs.Tables.{second_table, third_table, year_suffixes}
+use Rattle.csl_tables.specs.Tables.{mentions_in, second_table, third_table, year_suffixes}
 use Rattle.csl_tables.specs.declared.subject.Subject.{Subject}
 use Rattle.csl_told_laws.specs.Pairs.{AreMentionsInPairs}
-use Rattle.csl_told_laws.specs.TellingLaws.{KeepsTellingLaws, laters_in}
+use Rattle.csl_told_laws.specs.TellingLaws.{KeepsTellingLaws}
 use Rattle.csl_told_laws.proofs.Bounded.{has-bounds}
 use Rattle.csl_told_laws.proofs.Choosing.{condition-holds}
-use Rattle.csl_told_laws.proofs.Counted.{nothing-is-left, suffixes-count}
+use Rattle.csl_told_laws.proofs.Counted.{none-in-vain, nothing-is-left, suffixes-count}
 use Rattle.csl_told_laws.proofs.Fuller.{states-grow}
 use Rattle.csl_told_laws.proofs.NamesTelling.{names-tell}
 use Rattle.csl_told_laws.proofs.Paired.{entries-in-order}
@@ -22,23 +22,24 @@ module _ {M : Type 0} (write : M → MentionState → Written) (entries : ℕ) (
   abbrev last : List MentionState
   last = map (settled write subjects) subjects
 
-  abbrev laters : List Mention
-  laters = laters_in write subjects last
+  abbrev told : List Mention
+  told = mentions_in write subjects last
 
-  one-each : map (λ m. m.entry) laters ≡ range_with_len 0 entries
+  one-each : map (λ m. m.entry) (laters told) ≡ range_with_len 0 entries
   one-each = entries-in-order write (settled write subjects) entries subjects pairs
 
-  by-mentions : KeepsTellingLaws write subjects entries last (suffixes laters)
+  by-mentions : KeepsTellingLaws write subjects entries last (suffixes told)
   by-mentions = record {
     by_names = second_table write subjects;
     grow = states-grow write subjects;
     condition = condition-holds write subjects;
     names_tell = names-tell write subjects;
-    count = suffixes-count laters entries one-each;
-    none_left = nothing-is-left laters entries one-each;
+    count = suffixes-count told entries one-each;
+    none_left = nothing-is-left told entries one-each;
+    none_in_vain = none-in-vain told entries one-each;
     only_ambiguous = only-ambiguous write subjects entries pairs;
-    bounds = has-bounds write subjects entries pairs (suffixes laters);
+    bounds = has-bounds write subjects entries pairs (suffixes told);
   }
 
   pub keeps-laws : KeepsTellingLaws write subjects entries (third_table write subjects) (year_suffixes write subjects)
-  keeps-laws = subst (λ t. KeepsTellingLaws write subjects entries t (suffixes (laters_in write subjects t))) (sym (third-table write subjects)) by-mentions
+  keeps-laws = subst (λ t. KeepsTellingLaws write subjects entries t (suffixes (mentions_in write subjects t))) (sym (third-table write subjects)) by-mentions

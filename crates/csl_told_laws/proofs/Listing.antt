@@ -107,6 +107,45 @@ module _ {X : Type 0} where
   enumerated-at a (x ∷ xs) zero = ap (λ n. Some (n, x)) (omega arith)
   enumerated-at a (x ∷ xs) (suc i) = enumerated-at (a + 1) xs i ∙ ap (λ n. option_map (λ y. (n, y)) (slice_get xs i)) (omega arith)
 
+-- a member that passes is among those that are kept
+pub record KeptAt {X : Type 0} (p : X → Bool) (xs : List X) (x : X) : Type 0 where
+  pub place : ℕ
+  pub there : slice_get (filter p xs) place ≡ Some x
+
+pub kept-at : {X : Type 0} (p : X → Bool) (xs : List X) (k : ℕ) (x : X) → slice_get xs k ≡ Some x → p x ≡ true → KeptAt p xs x
+kept-at p [] k x h e = absurd (none-some x h)
+kept-at p (y ∷ ys) zero x h e =
+    record { place = 0; there = ap (λ b. slice_get (cond b (y ∷ filter p ys) (filter p ys)) 0) (ap p (same_Some y x h) ∙ e) ∙ h }
+kept-at p (y ∷ ys) (suc k) x h e = from (kept-at p ys k x h e)
+  where
+    from : KeptAt p ys x → KeptAt p (y ∷ ys) x
+    from rest = record { place = later (p y); there = on (p y) }
+      where
+        later : Bool → ℕ
+        later true = suc rest.place
+        later false = rest.place
+
+        on : (c : Bool) → slice_get (cond c (y ∷ filter p ys) (filter p ys)) (later c) ≡ Some x
+        on true = rest.there
+        on false = rest.there
+
+-- and one that was kept is a member
+pub record MemberAt {X : Type 0} (xs : List X) (x : X) : Type 0 where
+  pub place : ℕ
+  pub there : slice_get xs place ≡ Some x
+
+pub was-kept : {X : Type 0} (p : X → Bool) (xs : List X) (k : ℕ) (x : X) → slice_get (filter p xs) k ≡ Some x → MemberAt xs x
+was-kept p [] k x h = absurd (none-some x h)
+was-kept p (y ∷ ys) k x h = by (p y) k h (λ j e. was-kept p ys j x e)
+  where
+    next : MemberAt ys x → MemberAt (y ∷ ys) x
+    next at = record { place = suc at.place; there = at.there }
+
+    by : (b : Bool) (k : ℕ) → slice_get (cond b (y ∷ filter p ys) (filter p ys)) k ≡ Some x → ((j : ℕ) → slice_get (filter p ys) j ≡ Some x → MemberAt ys x) → MemberAt (y ∷ ys) x
+    by true zero e rest = record { place = 0; there = e }
+    by true (suc k) e rest = next (rest k e)
+    by false k e rest = next (rest k e)
+
 pub range-at : (a n i x : ℕ) → slice_get (range_with_len a n) i ≡ Some x → x ≡ a + i
 range-at a zero i x h = absurd (none-some x h)
 range-at a (suc n) zero x h = let e : a ≡ x = same_Some a x h in omega (arith, e)

@@ -17,7 +17,7 @@ use Rattle.csl_telling.specs.Looks.{full_look, look, needed, same_look}
 use Rattle.csl_telling.specs.Persons.{own_forms}
 use Rattle.csl_telling.specs.Reaches.{can_be_shown, first_member, is_by_cite, reach, reach_by, reach_form}
 use Rattle.csl_telling.specs.Telling.{both_go_on, first_difference, form_against, form_beside, form_needed, group_of, in_one_group, names_against, names_needed}
-use Rattle.csl_telling.specs.Told.{least_form, told_by_names}
+use Rattle.csl_telling.specs.Told.{asking, least_form, told_by_names}
 use Rattle.csl_telling.specs.declared.look.Look.{Look}
 use Rattle.csl_telling.specs.declared.mention.MentionedName.{MentionedName}
 use Rattle.csl_telling.specs.declared.mention.NamedMention.{NamedMention}
@@ -34,7 +34,7 @@ use Rattle.csl_told_laws.specs.Shown.{NamesCanTell, NamesTell, ShowsLeading, nam
 use Rattle.csl_told_laws.proofs.Apart.{unlike}
 use Rattle.csl_told_laws.proofs.Appearing.{all-shown, base-written, form-at, form-member, forms-are, forms-from, greatest-member, greatest-within, none-left-out, own-written, raised-first, raised-left, raised-shown, raised-written, short-adds-nothing, shown-at, shown-within, shown_in}
 use Rattle.csl_told_laws.proofs.Fuller.{greater-extent}
-use Rattle.csl_told_laws.proofs.Listing.{zip-map}
+use Rattle.csl_told_laws.proofs.Listing.{KeptAt, kept-at, zip-map}
 use Rattle.csl_told_laws.proofs.Placing.{MadeAt, among-first, before-position, behind-drop, difference-symm, ends-there, made-at, no-difference, one-group, position-within}
 use Rattle.csl_told_laws.proofs.Settled.{settled}
 
@@ -52,10 +52,18 @@ against-within a b = by (first_difference a.looks b.looks) refl
 
 module _ (ms : List NamedMention) where
   abbrev reaches : List Reach
-  reaches = map (reach ms) ms
+  reaches = asking ms
 
-  reach-at : (k : ℕ) (m : NamedMention) → slice_get ms k ≡ Some m → slice_get reaches k ≡ Some (reach ms m)
-  reach-at k m there = slice_get-map (reach ms) ms k ∙ ap (option_map (reach ms)) there
+  reach-occurs : (m : NamedMention) → (reach ms m).occurs ≡ m.occurs
+  reach-occurs m = by (first_member ms m)
+    where
+      by : (o : Option NamedMention) → (reach_by ms m o).occurs ≡ m.occurs
+      by None = refl
+      by (Some f) = refl
+
+  reach-at : (k : ℕ) (m : NamedMention) → slice_get ms k ≡ Some m → m.occurs ≡ true → KeptAt (λ b. b.occurs) (map (reach ms) ms) (reach ms m)
+  reach-at k m there occurs =
+      kept-at (λ b. b.occurs) (map (reach ms) ms) k (reach ms m) (slice_get-map (reach ms) ms k ∙ ap (option_map (reach ms)) there) (reach-occurs m ∙ occurs)
 
   reach-group : (m : NamedMention) → (reach ms m).group ≡ m.group
   reach-group m = by (first_member ms m)
@@ -151,7 +159,7 @@ module _ (ms : List NamedMention) where
       enough : is_by_cite f.rule ≡ true → extent (needed r (r ∷ s ∷ [])) ≤ extent form
 
     -- of two members of a group whose reaches first differ at i
-    module _ (m x : NamedMention) (l : ℕ) (first : first_member ms m ≡ Some f) (at_x : slice_get ms l ≡ Some x) (group : in_one_group m.group x.group ≡ true)
+    module _ (m x : NamedMention) (l : ℕ) (first : first_member ms m ≡ Some f) (at_x : slice_get ms l ≡ Some x) (there : x.occurs ≡ true) (group : in_one_group m.group x.group ≡ true)
         (i : ℕ) (differ : first_difference (reach ms m).looks (reach ms x).looks ≡ Some i) where
       abbrev a : Reach
       a = reach ms m
@@ -163,7 +171,7 @@ module _ (ms : List NamedMention) where
       together = (λ t. in_one_group (reach-group m t) (reach-group x t)) ∙ group
 
       needs-against : names_against (reach ms m) (reach ms x) ≤ count_of m
-      needs-against = greatest-member (names_against a) (λ b. in_one_group a.group b.group) reaches l c (reach-at l x at_x) together
+      needs-against = greatest-member (names_against a) (λ b. in_one_group a.group b.group) reaches (reach-at l x at_x there).place c (reach-at l x at_x there).there together
 
       against-is : names_against (reach ms m) (reach ms x) ≡ cond (both_go_on i (reach ms m) (reach ms x)) (i + 1) i
       against-is = ap (λ o. option_map_or (λ i. cond (both_go_on i a c) (i + 1) i) o 0) differ
@@ -195,7 +203,7 @@ module _ (ms : List NamedMention) where
 
         needs-enough : is_by_cite f.rule ≡ true → extent (needed r (r ∷ s ∷ [])) ≤ extent (form_needed reaches (reach ms m) i)
         needs-enough cited =
-            let most = form-member (form_against i a) (λ b. in_one_group a.group b.group) DisambiguatedNameForm.Short reaches l c (reach-at l x at_x) together in
+            let most = form-member (form_against i a) (λ b. in_one_group a.group b.group) DisambiguatedNameForm.Short reaches (reach-at l x at_x there).place c (reach-at l x at_x there).there together in
             let place : is_place i (first_difference a.looks c.looks) ≡ true = ap (is_place i) differ ∙ eq-eqb i i refl in
             let is : form_against i a c ≡ needed r (r ∷ s ∷ []) =
             (λ t. cond ((cite-is m first ∙ cited) t && place t) (form_beside (is_r t) (is_s t)) DisambiguatedNameForm.Short) in
@@ -338,11 +346,11 @@ module _ (ms : List NamedMention) where
           → shown_by m.names (forms_of m) ≢ shown_by x.names (forms_of x)
       apart-by None None p q d e = true≢false d
       apart-by None (Some s) p q d e =
-          ends f m x i first too can.leading (ended p) (slice_get_within (reach ms x).looks i s q) (needs-before f m x l first at_x can.one_group i differ) e
+          ends f m x i first too can.leading (ended p) (slice_get_within (reach ms x).looks i s q) (needs-before f m x l first at_x can.occurs_too can.one_group i differ) e
       apart-by (Some r) None p q d e =
-          ends f x m i too first can.leading_too (ended-too q) (slice_get_within (reach ms m).looks i r p) (needs-before f x m k too at_m back i differ-back) (sym e)
+          ends f x m i too first can.leading_too (ended-too q) (slice_get_within (reach ms m).looks i r p) (needs-before f x m k too at_m can.occurs back i differ-back) (sym e)
       apart-by (Some r) (Some s) p q d e =
-          go-on f m x i r s (appears f m x l first at_x can.one_group i differ r s p q) (appears f x m k too at_m back i differ-back s r q p) d (ap (λ (t : List Look × Bool). t.0) e)
+          go-on f m x i r s (appears f m x l first at_x can.occurs_too can.one_group i differ r s p q) (appears f x m k too at_m can.occurs back i differ-back s r q p) d (ap (λ (t : List Look × Bool). t.0) e)
 
       told-apart : shown_by m.names (forms_of m) ≢ shown_by x.names (forms_of x)
       told-apart = apart-by (slice_get (reach ms m).looks i) (slice_get (reach ms x).looks i) refl refl unlike-there

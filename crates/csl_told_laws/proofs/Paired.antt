@@ -2,13 +2,13 @@
 use Rattle.std.proofs.Common.{◌≡◌, ℕ, ◌*◌, ◌+◌, zero, suc, Bool, true, false, cond, not, List, [], ◌∷◌, filter, flat_map, length, map, refl, ap, sym, ◌∙◌, arith}
 use Rattle.std.specs.List.{range_with_len}
 use Rattle.std.proofs.lemmas.List.{length-map}
+use Rattle.csl_mentions.specs.Suffixes.{laters}
 use Rattle.csl_mentions.specs.declared.mention.Mention.{Mention}
 use Rattle.csl_mentions.specs.declared.state.MentionState.{MentionState}
 use Rattle.csl_mentions.specs.declared.written.Written.{Written}
-use Rattle.csl_tables.specs.Tables.{mention_in}
+use Rattle.csl_tables.specs.Tables.{mention_in, mentions_in}
 use Rattle.csl_tables.specs.declared.subject.Subject.{Subject}
 use Rattle.csl_told_laws.specs.Pairs.{AreMentionsInPairs, both_mentions}
-use Rattle.csl_told_laws.specs.TellingLaws.{laters_in}
 use Rattle.csl_told_laws.proofs.Settled.{read-by}
 
 later-entries : (n a : ℕ) → map (λ p. p.0) (filter (λ p. not p.1) (flat_map both_mentions (range_with_len a n))) ≡ range_with_len a n
@@ -44,9 +44,9 @@ module _ {M : Type 0} (write : M → MentionState → Written) where
       by false rest = ap (λ l. s.entry ∷ l) rest
 
   pub entries-in-order : (state : Subject M → MentionState) (entries : ℕ) (subjects : List (Subject M)) → AreMentionsInPairs entries subjects
-      → map (λ m. m.entry) (laters_in write subjects (map state subjects)) ≡ range_with_len 0 entries
+      → map (λ m. m.entry) (laters (mentions_in write subjects (map state subjects))) ≡ range_with_len 0 entries
   entries-in-order state entries subjects h =
-      ap (λ (ms : List Mention). map (λ m. m.entry) (filter (λ m. not m.is_first) ms)) (read-by write subjects state)
+      ap (λ (ms : List Mention). map (λ m. m.entry) (laters ms)) (read-by write subjects state)
       ∙ of-pairs state subjects
       ∙ ap (λ (ps : List (ℕ × Bool)). entries_of (are_later ps)) h.in_pairs
       ∙ later-entries entries 0

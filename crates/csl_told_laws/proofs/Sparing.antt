@@ -1,9 +1,10 @@
 -- Only the ambiguous are told apart.
-use Rattle.std.proofs.Common.{◌≡◌, ℕ, ◌+◌, ◌<◌, true, false, cond, not, Some, None, Option, List, [], ◌∷◌, filter, get_or, map, refl, ap, sym, subst, ◌∙◌, arith, true≢false, ◌⊎◌, inl, inr}
+use Rattle.std.proofs.Common.{◌≡◌, ℕ, ◌+◌, ◌<◌, Bool, true, false, cond, Some, None, Option, List, [], ◌∷◌, filter, get_or, map, refl, ap, sym, subst, ◌∙◌, arith, true≢false}
 use Rattle.std.specs.Prelude.{All, option_and_then, option_map, slice_get, unwrap_or}
 use Rattle.std.specs.List.{enumerate_from, list_any, range_with_len, zip}
-use Rattle.std.proofs.lemmas.Bool.{and_cases, and_left, and_right, le-ltb}
-use Rattle.std.proofs.lemmas.List.Elements.{All-filter, All-map}
+use Rattle.std.proofs.lemmas.Bool.{and_from, and_right, le-ltb}
+use Rattle.std.proofs.lemmas.List.Elements.{All-map}
+use Rattle.std.proofs.lemmas.List.Folds.{list_any_at}
 use Rattle.std.proofs.lemmas.List.FromFn.{get_or-enumerate_from, length-enumerate_from}
 use Rattle.std.proofs.lemmas.Option.{get_or_from_slice_get, slice_get-map, slice_get_within}
 use Rattle.csl_values.specs.Forms.{Forms}
@@ -15,12 +16,12 @@ use Rattle.csl_telling.specs.Forms.{base, greater, greatest_form, raised, raised
 use Rattle.csl_telling.specs.Persons.{own_forms}
 use Rattle.csl_telling.specs.Reaches.{first_member, reach, reach_by}
 use Rattle.csl_telling.specs.Telling.{form_against, form_needed, greatest, group_of as reaches_in_group, in_one_group, names_against, names_needed}
-use Rattle.csl_telling.specs.Told.{least_form, told_by_names}
+use Rattle.csl_telling.specs.Told.{asking, least_form, told_by_names}
 use Rattle.csl_telling.specs.declared.mention.MentionedName.{MentionedName}
 use Rattle.csl_telling.specs.declared.mention.NamedMention.{NamedMention}
 use Rattle.csl_telling.specs.declared.reach.Reach.{Reach}
-use Rattle.csl_mentions.specs.Groups.{has_text, is_ambiguous, is_rival}
-use Rattle.csl_mentions.specs.Suffixes.{suffix_of, suffixes}
+use Rattle.csl_mentions.specs.Groups.{has_text, is_ambiguous, is_asked, is_rival}
+use Rattle.csl_mentions.specs.Suffixes.{class_of, entry_class, entry_classes, is_entry_asked, laters, suffix_of, suffixes}
 use Rattle.csl_mentions.specs.declared.mention.Mention.{Mention}
 use Rattle.csl_mentions.specs.declared.state.MentionState.{MentionState}
 use Rattle.csl_mentions.specs.declared.written.Written.{Written}
@@ -29,12 +30,12 @@ use Rattle.csl_tables.specs.Tables.{first_table, mention_in, mentions_in, named,
 use Rattle.csl_tables.specs.declared.subject.Subject.{Subject}
 use Rattle.csl_told_laws.specs.Ambiguous.{IsInNoGroup, OnlyAmbiguous, StaysShort, adds_by_document}
 use Rattle.csl_told_laws.specs.Pairs.{AreMentionsInPairs}
-use Rattle.csl_told_laws.specs.SuffixLaws.{suffix_at}
-use Rattle.csl_told_laws.specs.TellingLaws.{laters_in}
-use Rattle.csl_told_laws.proofs.Classing.{in-none, none-gets}
-use Rattle.csl_told_laws.proofs.Counted.{entry-at, suffix-there, suffix-without}
+use Rattle.csl_told_laws.specs.SuffixLaws.{EntryClass, suffix_at}
+use Rattle.csl_told_laws.proofs.Choosing.{not-asked, rivals}
+use Rattle.csl_told_laws.proofs.Classing.{entry-at, entry-there, in-none, mistaken, none-gets, same-text, text-known}
+use Rattle.csl_told_laws.proofs.Counted.{suffix-there, suffix-without}
 use Rattle.csl_told_laws.proofs.Fuller.{some_names}
-use Rattle.csl_told_laws.proofs.Listing.{all-every, all-under, enumerated-at, none-of-some, zip-map}
+use Rattle.csl_told_laws.proofs.Listing.{all-every, all-under, enumerated-at, zip-map}
 use Rattle.csl_told_laws.proofs.Paired.{entries-in-order}
 use Rattle.csl_told_laws.proofs.Settled.{read-by, settled}
 
@@ -89,7 +90,7 @@ module _ (ms : List NamedMention) (m : NamedMention) where
   none-told e short = not-raised (own_forms m.names) (names_needed reaches a) (least_form ms m) none least
     where
       reaches : List Reach
-      reaches = map (reach ms) ms
+      reaches = asking ms
 
       a : Reach
       a = reach ms m
@@ -162,48 +163,54 @@ module _ {M : Type 0} (write : M → MentionState → Written) (subjects : List 
   no-choice entry h =
       of-entry entry (λ p. p.1.chosen ≡ false)
       (λ k d l own. and_right (write (get_or subjects k d).mention untold).tested
-      (is_ambiguous (mentions_in write subjects (second_table write subjects)) (mention_in write (get_or subjects k d) (with_names write subjects (get_or subjects k d))))
-      (apart-in (with_names write subjects) entry h k d l own))
+      (is_asked (mentions_in write subjects (second_table write subjects)) (mention_in write (get_or subjects k d) (with_names write subjects (get_or subjects k d))))
+      (not-asked (mentions_in write subjects (second_table write subjects)) (mention_in write (get_or subjects k d) (with_names write subjects (get_or subjects k d)))
+      (apart-in (with_names write subjects) entry h k d l own)))
 
   abbrev last_read : List Mention
   last_read = mentions_in write subjects (map (settled write subjects) subjects)
 
-  abbrev last_laters : List Mention
-  last_laters = laters_in write subjects (map (settled write subjects) subjects)
-
-  none-later : (m : Mention) → is_ambiguous last_read m ≡ false → is_ambiguous last_laters m ≡ false
-  none-later m e = split (and_cases (has_text m) (list_any (is_rival m) last_read) e)
-    where
-      split : (has_text m ≡ false) ⊎ (list_any (is_rival m) last_read ≡ false) → is_ambiguous last_laters m ≡ false
-      split (inl f) = and_left (has_text m) (list_any (is_rival m) last_laters) f
-      split (inr f) = and_right (has_text m) (list_any (is_rival m) last_laters) (none-of-some (is_rival m) (λ x. not x.is_first) last_read f)
-
-  -- what no mention of an entry reads as, its later one doesn't
-  later-apart : (entry : ℕ) (m : Mention) → IsInNoGroup last_read entry → slice_get last_laters entry ≡ Some m → m.entry ≡ entry → is_ambiguous last_read m ≡ false
-  later-apart entry m h e =
-      let kept : All (λ x. x.entry ≡ entry → is_ambiguous last_read x ≡ false) last_laters =
-      All-filter (λ x. not x.is_first) (λ x. x.entry ≡ entry → is_ambiguous last_read x ≡ false) last_read h in
-      subst (λ (x : Mention). x.entry ≡ entry → is_ambiguous last_read x ≡ false) (get_or_from_slice_get last_laters entry m m e)
-      (kept entry m (slice_get_within last_laters entry m e))
-
   module _ (entries : ℕ) (pairs : AreMentionsInPairs entries subjects) where
-    one-each : map (λ m. m.entry) last_laters ≡ range_with_len 0 entries
+    one-each : map (λ m. m.entry) (laters last_read) ≡ range_with_len 0 entries
     one-each = entries-in-order write (settled write subjects) entries subjects pairs
 
-    no-suffix : (entry : ℕ) → IsInNoGroup last_read entry → suffix_at (suffixes last_laters) entry ≡ None
-    no-suffix entry h = by (slice_get last_laters entry) refl
+    -- an entry in no group isn't asked to differ
+    spared : (entry : ℕ) → IsInNoGroup last_read entry → is_entry_asked last_read entry ≡ false
+    spared entry h = by (is_entry_asked last_read entry) refl
       where
-        by : (o : Option Mention) → slice_get last_laters entry ≡ o → suffix_at (suffixes last_laters) entry ≡ None
+        by : (b : Bool) → is_entry_asked last_read entry ≡ b → b ≡ false
+        by false e = refl
+        by true e =
+            let r = mistaken last_read entry e in
+            let m = r.one in
+            let within = slice_get_within last_read r.at_other r.other r.is_other in
+            let rival : is_rival m r.other ≡ true = rivals m r.other (sym (same-text last_read m r.other r.text r.text_one r.text_other)) (λ same. r.apart (sym same)) in
+            let there : is_ambiguous last_read m ≡ true =
+            and_from (has_text m) (list_any (is_rival m) last_read) (text-known last_read m r.text r.text_one)
+            (list_any_at (is_rival m) last_read r.at_other r.other within (ap (is_rival m) (get_or_from_slice_get last_read r.at_other r.other r.other r.is_other) ∙ rival)) in
+            let alone : is_ambiguous last_read m ≡ false =
+            subst (λ (x : Mention). x.entry ≡ entry → is_ambiguous last_read x ≡ false) (get_or_from_slice_get last_read r.at_one m m r.is_one)
+            (h r.at_one m (slice_get_within last_read r.at_one m r.is_one)) (sym r.own) in
+            absurd (true≢false (sym there ∙ alone))
+
+    no-suffix : (entry : ℕ) → IsInNoGroup last_read entry → suffix_at (suffixes last_read) entry ≡ None
+    no-suffix entry h = by (slice_get (laters last_read) entry) refl
+      where
+        es : List EntryClass
+        es = entry_classes last_read
+
+        by : (o : Option Mention) → slice_get (laters last_read) entry ≡ o → suffix_at (suffixes last_read) entry ≡ None
         by None e =
-            ap (option_and_then (λ s. s)) (slice_get-map (suffix_of last_laters) (enumerate_from 0 last_laters) entry
-            ∙ ap (option_map (suffix_of last_laters)) (enumerated-at 0 last_laters entry ∙ ap (option_map (λ x. (0 + entry, x))) e))
+            ap (option_and_then (λ s. s)) (slice_get-map (suffix_of es) (enumerate_from 0 es) entry
+            ∙ ap (option_map (suffix_of es)) (enumerated-at 0 es entry ∙ ap (option_map (λ x. (0 + entry, x))) (slice_get-map (entry_class last_read) (laters last_read) entry ∙ ap (option_map (entry_class last_read)) e)))
         by (Some m) e =
-            let here = later-apart entry m h e (entry-at last_laters entries one-each entry m e) in
-            suffix-there last_laters entries one-each entry m e
-            ∙ suffix-without last_laters entry m None (in-none last_laters m (none-later m here)) (none-gets last_laters)
+            let none : (entry_class last_read m).class ≡ None =
+            ap (λ b. cond b (class_of last_read m.entry) None) (ap (is_entry_asked last_read) (entry-at last_read entries one-each entry m e) ∙ spared entry h) in
+            suffix-there last_read entries one-each entry (entry_class last_read m) (entry-there last_read entries one-each entry m e)
+            ∙ suffix-without es entry (entry_class last_read m) None none (none-gets es)
 
     pub only-ambiguous : OnlyAmbiguous write subjects (second_table write subjects) (map (settled write subjects) subjects)
-        (suffixes (laters_in write subjects (map (settled write subjects) subjects)))
+        (suffixes (mentions_in write subjects (map (settled write subjects) subjects)))
     only-ambiguous = record {
       no_names = no-names;
       by_rule = stays-short;

@@ -14,10 +14,11 @@ use Rattle.csl_tables.specs.Tables.{first_table, mention_in, mentions_in, named}
 use Rattle.csl_tables.specs.declared.subject.Subject.{Subject}
 use Rattle.csl_told_laws.specs.SuffixLaws.{suffix_at}
 
--- its text isn't empty, and is that of a mention of another entry
-pub record ReadsAsAnother (mentions : List Mention) (m : Mention) : Type 0 where
+-- its text isn't empty, and mentions of two entries that occur have it
+pub record ReadsAsTwo (mentions : List Mention) (m : Mention) : Type 0 where
   pub has_text : m.text ≢ []
-  pub other : Any (λ n. (n.text ≡ m.text) × (n.entry ≢ m.entry)) mentions
+  pub one : Any (λ x. (x.occurs ≡ true) × ((x.text ≡ m.text)
+      × Any (λ y. (y.occurs ≡ true) × ((y.text ≡ x.text) × (y.entry ≢ x.entry))) mentions)) mentions
 
 -- no mention of this entry is in a group
 abbrev pub IsInNoGroup : List Mention → ℕ → Type 0
@@ -41,12 +42,12 @@ module _ {M : Type 0} (write : M → MentionState → Written) (subjects : List 
   read_in = mentions_in write subjects
 
   -- where the table with names and the states in the end give it these, it is chosen exactly if
-  -- it tested the condition, and reads by its names as a mention of another entry
+  -- it tested the condition, and reads by its names as mentions of two entries that occur
   abbrev pub IsChosenRightly : List MentionState → Subject M × (MentionState × MentionState)
       → Type 0
   IsChosenRightly by_names p = (p.1.1.chosen ≡ true)
       ↔ (((write p.0.mention untold).tested ≡ true)
-      × ReadsAsAnother (read_in by_names) (mention_in write p.0 p.1.0))
+      × ReadsAsTwo (read_in by_names) (mention_in write p.0 p.1.0))
 
   -- the condition holds in these mentions and no others
   abbrev pub ConditionHolds : List MentionState → List MentionState → Type 0

@@ -37,10 +37,12 @@ abbrev pub ShowsLeading : Forms → Type 0
 ShowsLeading own = All (λ f. only_counts f ≡ true) (drop (shown own) own)
 
 module _ (mentions : List NamedMention) where
-  -- two mentions of one group of which names can tell something else
+  -- two mentions of one group that occur, of which names can tell something else
   pub record NamesCanTell (m x : NamedMention) : Type 0 where
     pub one_group : in_one_group m.group x.group ≡ true
     pub apart : (reach mentions m).looks ≢ (reach mentions x).looks
+    pub occurs : m.occurs ≡ true
+    pub occurs_too : x.occurs ≡ true
     pub leading : ShowsLeading (own_forms m.names)
     pub leading_too : ShowsLeading (own_forms x.names)
 

@@ -1,7 +1,6 @@
 -- What a caller may rely on of the states and the suffixes that tell mentions apart.
-use Rattle.std.specs.Prelude.{◌≡◌, ℕ, ◌*◌, ◌+◌, ◌≤◌, Bool, List, Option, filter, if◌then◌else◌, is_some, length, not}
+use Rattle.std.specs.Prelude.{◌≡◌, ℕ, ◌*◌, ◌+◌, ◌≤◌, Bool, List, Option, filter, if◌then◌else◌, is_some, length}
 use Rattle.std.specs.List.{list_any}
-use Rattle.csl_mentions.specs.declared.mention.Mention.{Mention}
 use Rattle.csl_mentions.specs.declared.state.MentionState.{MentionState}
 use Rattle.csl_mentions.specs.declared.written.Written.{Written}
 use Rattle.csl_tables.specs.Tables.{all_tasks, mentions_in}
@@ -9,7 +8,7 @@ use Rattle.csl_tables.specs.declared.subject.Subject.{Subject}
 use Rattle.csl_told_laws.specs.Ambiguous.{ConditionHolds, OnlyAmbiguous}
 use Rattle.csl_told_laws.specs.Growing.{StatesGrow}
 use Rattle.csl_told_laws.specs.Shown.{NamesTell}
-use Rattle.csl_told_laws.specs.SuffixLaws.{NothingIsLeft, SuffixesCount}
+use Rattle.csl_told_laws.specs.SuffixLaws.{NoneInVain, NothingIsLeft, SuffixesCount}
 
 -- one where this holds of some member
 abbrev pub one_if_any : {X : Type 0} → (X → Bool) → List X → ℕ
@@ -26,10 +25,6 @@ rounds_of states suffixes = one_if_any has_names states
     + one_if_any is_some suffixes
 
 module _ {M : Type 0} (write : M → MentionState → Written) (subjects : List (Subject M)) where
-  -- the later mentions of all entries, as they read in the end
-  abbrev pub laters_in : List MentionState → List Mention
-  laters_in states = filter (λ m. not m.is_first) (mentions_in write subjects states)
-
   -- rounds and tasks have bounds, for so many entries
   pub record HasBounds (entries : ℕ) (states : List MentionState) (suffixes : List (Option ℕ))
       : Type 0 where
@@ -47,7 +42,8 @@ module _ {M : Type 0} (write : M → MentionState → Written) (subjects : List 
     pub grow : StatesGrow write subjects by_names states
     pub condition : ConditionHolds write subjects by_names states
     pub names_tell : NamesTell write subjects states
-    pub count : SuffixesCount (laters_in states) suffixes
-    pub none_left : NothingIsLeft (laters_in states) suffixes
+    pub count : SuffixesCount (mentions_in write subjects states) suffixes
+    pub none_left : NothingIsLeft (mentions_in write subjects states) suffixes
+    pub none_in_vain : NoneInVain (mentions_in write subjects states) suffixes
     pub only_ambiguous : OnlyAmbiguous write subjects by_names states suffixes
     pub bounds : HasBounds entries states suffixes
