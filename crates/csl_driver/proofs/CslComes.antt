@@ -45,6 +45,7 @@ use Rattle.csl_passes.specs.Renders.{CiteRender}
 use Rattle.csl_passes.specs.Request.{Request, cited, wanted_source}
 use Rattle.csl_positions.specs.FinalProperties.{cited_finally, items_finally}
 use Rattle.csl_requested_mentions.specs.Handed.{cite_counts}
+use Rattle.csl_requested_mentions.specs.Handed.{is_cited_again}
 use Rattle.csl_requested_mentions.specs.Homes.{HomeValue, homes_of}
 use Rattle.csl_tables.specs.Asked.{untold}
 use Rattle.csl_told_cites.specs.Mentions.{mention_index, suffix_number}
@@ -124,6 +125,9 @@ module _ {E P : Type 0} (eq : E → E → Bool) (laws : IsEquivalence eq) (paylo
     abbrev homes : List (HomeValue E P)
     homes = homes_of eq (listed eq job) job.requests
 
+    abbrev again : ℕ → Bool
+    again = is_cited_again eq (listed eq job) job.requests
+
     abbrev write : CiteTaskValue E P → MentionState → Written
     write = read eq job writing
 
@@ -137,8 +141,8 @@ module _ {E P : Type 0} (eq : E → E → Bool) (laws : IsEquivalence eq) (paylo
         let all : List MentionState = states eq job writing in
         let first = every_second true all in
         let later = every_second false all in
-        let long : length first ≡ length later = firsts-count job.offset write homes ∙ sym (laters-count job.offset write homes) in
-        ap (λ l. unwrap_or (slice_get l (mention_index k is_first)) untold) (sym (turns job.offset write homes))
+        let long : length first ≡ length later = firsts-count job.offset again write homes ∙ sym (laters-count job.offset again write homes) in
+        ap (λ l. unwrap_or (slice_get l (mention_index k is_first)) untold) (sym (turns job.offset again write homes))
         ∙ ap (λ o. unwrap_or o untold) (turn-of first later long k is_first)
         ∙ (λ i. unwrap_or (slice_get (cond is_first (sym is.first_mentions i) (sym is.later_mentions i)) k) untold)
 

@@ -1,6 +1,6 @@
 -- The laws of entries, of their states and suffixes, and of costs hold of every account.
 use Rattle.std.proofs.Common.{◌≡◌, ℕ, ◌+◌, ◌*◌, ◌-◌, ◌^◌, ◌≤◌, Bool, true, List, filter, length, map, ap, sym, subst, ◌∙◌, arith}
-use Rattle.std.specs.Prelude.{min, not}
+use Rattle.std.specs.Prelude.{min}
 use Rattle.std.specs.Cmp.{IsEquivalence}
 use Rattle.std.specs.List.{AllZip}
 use Rattle.std.proofs.Math.ListN.{length-map}
@@ -10,24 +10,25 @@ use Rattle.csl_driver.specs.Account.{where_listed}
 use Rattle.csl_driver.specs.Answer.{Job}
 use Rattle.csl_driver.specs.CslAnswer.{entry_suffixes, listed, mentions, read, states}
 use Rattle.csl_driver.specs.CslByEntry.{entries_had, states_had}
-use Rattle.csl_driver.specs.CslLaws.{HasCitedEntries, HasCosts, TellsWorksApart, laters_had}
+use Rattle.csl_driver.specs.CslLaws.{HasCitedEntries, HasCosts, TellsWorksApart}
 use Rattle.csl_driver.specs.CslPromised.{IsExactlyCsl}
 use Rattle.csl_driver.specs.CslTasks.{repeat_cite_tasks}
 use Rattle.csl_driver.specs.declared.csl_account.CslAccount.{CslAccount}
 use Rattle.csl_driver.proofs.CslEntries.{equal-told, homes-told, told-cited, told-count, told-once}
 use Rattle.csl_driver.proofs.CslFew.{repeats-few}
-use Rattle.csl_driver.proofs.CslPairs.{by_turns, firsts-count, in-pairs, laters-are, laters-count, turns}
+use Rattle.csl_driver.proofs.CslPairs.{by_turns, firsts-count, in-pairs, laters-count, turns}
 use Rattle.csl_entries.specs.Entries.{is_in}
 use Rattle.csl_entries.specs.Laws.{NoTwoEqual}
+use Rattle.csl_mentions.specs.Suffixes.{laters}
 use Rattle.csl_mentions.specs.declared.state.MentionState.{MentionState}
 use Rattle.csl_mentions.specs.declared.written.Written.{Written}
 use Rattle.csl_passes.specs.Request.{cites_of}
+use Rattle.csl_requested_mentions.specs.Handed.{is_cited_again}
 use Rattle.csl_requested_mentions.specs.Homes.{HomeValue, homes_of}
 use Rattle.csl_tables.specs.Tables.{all_tasks, mentions_in}
 use Rattle.csl_tables.specs.declared.subject.Subject.{Subject}
 use Rattle.csl_told_laws.specs.Pairs.{AreMentionsInPairs}
-use Rattle.csl_told_laws.specs.SuffixLaws.{NothingIsLeft, SuffixesCount}
-use Rattle.csl_told_laws.specs.TellingLaws.{KeepsTellingLaws, has_names, laters_in, rounds_of}
+use Rattle.csl_told_laws.specs.TellingLaws.{KeepsTellingLaws, has_names, rounds_of}
 use Rattle.csl_told_laws.proofs.Bounded.{three-at-most}
 use Rattle.csl_told_laws.proofs.Kept.{keeps-laws}
 use Rattle.csl_told_laws.proofs.Paired.{entries-in-order, twice-as-many}
@@ -48,6 +49,9 @@ module _ {E P : Type 0} (eq : E → E → Bool) (laws : IsEquivalence eq) (paylo
   abbrev homes : List (HomeValue E P)
   homes = homes_of eq (listed eq job) job.requests
 
+  abbrev again : ℕ → Bool
+  again = is_cited_again eq (listed eq job) job.requests
+
   abbrev subjects : List (Subject (CiteTaskValue E P))
   subjects = mentions eq job
 
@@ -58,14 +62,11 @@ module _ {E P : Type 0} (eq : E → E → Bool) (laws : IsEquivalence eq) (paylo
   entries-long = ap length is.entries ∙ sym (homes-told eq laws job)
 
   pairs : AreMentionsInPairs (length (entries_had r.1)) subjects
-  pairs = subst (λ n. AreMentionsInPairs n subjects) (sym entries-long) (in-pairs job.offset homes)
+  pairs = subst (λ n. AreMentionsInPairs n subjects) (sym entries-long) (in-pairs job.offset again homes)
 
   -- the account's states are those of the tables
   states-are : states_had r.1 ≡ states eq job writing
-  states-are = (λ i. by_turns (is.first_mentions i) (is.later_mentions i)) ∙ turns job.offset write homes
-
-  laters-same : laters_in write subjects (states_had r.1) ≡ laters_had eq job writing r.1
-  laters-same = ap (laters_in write subjects) states-are ∙ laters-are job.offset write homes ∙ ap (mentions_in write (filter (λ s. not s.is_first) subjects)) (sym is.later_mentions)
+  states-are = (λ i. by_turns (is.first_mentions i) (is.later_mentions i)) ∙ turns job.offset again write homes
 
   telling : KeepsTellingLaws write subjects (length (entries_had r.1)) (states_had r.1) r.1.suffixes.items
   telling =
@@ -75,8 +76,9 @@ module _ {E P : Type 0} (eq : E → E → Bool) (laws : IsEquivalence eq) (paylo
 
   pub tells-apart : TellsWorksApart eq job writing r.1
   tells-apart = record {
-    suffixes_count = subst (λ ls. SuffixesCount ls r.1.suffixes.items) laters-same telling.count;
-    none_left = subst (λ ls. NothingIsLeft ls r.1.suffixes.items) laters-same telling.none_left;
+    suffixes_count = telling.count;
+    none_left = telling.none_left;
+    none_in_vain = telling.none_in_vain;
     by_names = telling.by_names;
     names_tell = telling.names_tell;
     condition = telling.condition;
@@ -87,7 +89,7 @@ module _ {E P : Type 0} (eq : E → E → Bool) (laws : IsEquivalence eq) (paylo
   suffixes-long : length r.1.suffixes.items ≡ length (entries_had r.1)
   suffixes-long =
       sym (length-range_with_len 0 (length r.1.suffixes.items)) ∙ ap length (sym telling.count.entries)
-      ∙ ap (λ ss. length (map (λ m. m.entry) (laters_in write subjects ss))) (states-are ∙ third-table write subjects)
+      ∙ ap (λ ss. length (map (λ m. m.entry) (laters (mentions_in write subjects ss)))) (states-are ∙ third-table write subjects)
       ∙ ap length (entries-in-order write (settled write subjects) (length (entries_had r.1)) subjects pairs)
       ∙ length-range_with_len 0 (length (entries_had r.1))
 
@@ -96,8 +98,8 @@ module _ {E P : Type 0} (eq : E → E → Bool) (laws : IsEquivalence eq) (paylo
     none_twice = subst (λ es. NoTwoEqual eq es) (sym is.entries) (told-once eq laws job);
     no_other = λ e. ap (is_in eq e) is.entries ∙ told-cited eq laws job e;
     in_order = subst (AllZip (λ d e. eq d e ≡ true) (listed eq job)) (sym is.entries) (equal-told eq laws job);
-    first_states = ap length is.first_mentions ∙ firsts-count job.offset write homes ∙ sym entries-long;
-    later_states = ap length is.later_mentions ∙ laters-count job.offset write homes ∙ sym entries-long;
+    first_states = ap length is.first_mentions ∙ firsts-count job.offset again write homes ∙ sym entries-long;
+    later_states = ap length is.later_mentions ∙ laters-count job.offset again write homes ∙ sym entries-long;
     suffixes = suffixes-long;
     numbers = ap length is.numbers ∙ length-map (listed eq job) _ ∙ sym (told-count eq laws job) ∙ ap length (sym is.entries);
   }

@@ -1,32 +1,30 @@
 -- The mentions of entries with their states, each first one before the later one.
-use Rattle.std.proofs.Common.{◌≡◌, ℕ, suc, ◌+◌, true, false, not, List, [], ◌∷◌, filter, flat_map, length, map, refl, ap, sym, ◌∙◌}
+use Rattle.std.proofs.Common.{◌≡◌, ℕ, suc, ◌+◌, Bool, true, false, List, [], ◌∷◌, flat_map, length, map, refl, ap, sym, ◌∙◌}
 use Rattle.std.specs.List.{enumerate_from, range_with_len, zip}
 use Rattle.csl_driver.specs.CslAccount.{every_second}
-use Rattle.csl_mentions.specs.declared.mention.Mention.{Mention}
 use Rattle.csl_mentions.specs.declared.state.MentionState.{MentionState}
 use Rattle.csl_mentions.specs.declared.written.Written.{Written}
 use Rattle.csl_requested_mentions.specs.Homes.{HomeValue}
 use Rattle.csl_requested_mentions.specs.Mentions.{mention, mentions_at}
-use Rattle.csl_tables.specs.Tables.{mention_in, mentions_in, third_table}
+use Rattle.csl_tables.specs.Tables.{third_table}
 use Rattle.csl_tables.specs.declared.subject.Subject.{Subject}
 use Rattle.csl_told_laws.specs.Pairs.{AreMentionsInPairs, both_mentions}
-use Rattle.csl_told_laws.specs.TellingLaws.{laters_in}
-use Rattle.csl_told_laws.proofs.Settled.{read-by, settled, third-table}
+use Rattle.csl_told_laws.proofs.Settled.{settled, third-table}
 use Rattle.csl_writers.specs.Tasks.{CiteTaskValue}
 
 -- two lists, member by member
 abbrev pub by_turns : {X : Type 0} → List X → List X → List X
 by_turns xs ys = flat_map (λ p. p.0 ∷ p.1 ∷ []) (zip xs ys)
 
-module _ {E P : Type 0} (offset : ℕ) where
+module _ {E P : Type 0} (offset : ℕ) (again : ℕ → Bool) where
   abbrev mentions_from : ℕ → List (HomeValue E P) → List (Subject (CiteTaskValue E P))
-  mentions_from n homes = flat_map (λ p. mention offset p.0 p.1 true ∷ mention offset p.0 p.1 false ∷ []) (enumerate_from n homes)
+  mentions_from n homes = flat_map (λ p. mention offset (again p.0) p.0 p.1 true ∷ mention offset (again p.0) p.0 p.1 false ∷ []) (enumerate_from n homes)
 
   pairs-from : (n : ℕ) (homes : List (HomeValue E P)) → map (λ s. (s.entry, s.is_first)) (mentions_from n homes) ≡ flat_map both_mentions (range_with_len n (length homes))
   pairs-from n [] = refl
   pairs-from n (h ∷ homes) = ap (λ l. (n, true) ∷ (n, false) ∷ l) (pairs-from (n + 1) homes)
 
-  pub in-pairs : (homes : List (HomeValue E P)) → AreMentionsInPairs (length homes) (mentions_at offset homes)
+  pub in-pairs : (homes : List (HomeValue E P)) → AreMentionsInPairs (length homes) (mentions_at offset again homes)
   in-pairs homes = record { in_pairs = pairs-from 0 homes }
 
   module _ (state : Subject (CiteTaskValue E P) → MentionState) where
@@ -35,7 +33,7 @@ module _ {E P : Type 0} (offset : ℕ) where
 
     turns-from : (n : ℕ) (homes : List (HomeValue E P)) → by_turns (every_second true (states_from n homes)) (every_second false (states_from n homes)) ≡ states_from n homes
     turns-from n [] = refl
-    turns-from n (h ∷ homes) = ap (λ l. state (mention offset n h true) ∷ state (mention offset n h false) ∷ l) (turns-from (n + 1) homes)
+    turns-from n (h ∷ homes) = ap (λ l. state (mention offset (again n) n h true) ∷ state (mention offset (again n) n h false) ∷ l) (turns-from (n + 1) homes)
 
     firsts-from : (n : ℕ) (homes : List (HomeValue E P)) → length (every_second true (states_from n homes)) ≡ length homes
     firsts-from n [] = refl
@@ -45,17 +43,10 @@ module _ {E P : Type 0} (offset : ℕ) where
     others-from n [] = refl
     others-from n (h ∷ homes) = ap suc (others-from (n + 1) homes)
 
-    module _ (write : CiteTaskValue E P → MentionState → Written) where
-      laters-from : (n : ℕ) (homes : List (HomeValue E P))
-          → filter (λ (m : Mention). not m.is_first) (map (λ s. mention_in write s (state s)) (mentions_from n homes))
-          ≡ mentions_in write (filter (λ s. not s.is_first) (mentions_from n homes)) (every_second false (states_from n homes))
-      laters-from n [] = refl
-      laters-from n (h ∷ homes) = ap (λ l. mention_in write (mention offset n h false) (state (mention offset n h false)) ∷ l) (laters-from (n + 1) homes)
-
   -- the states of the mentions of entries with these homes
   module _ (write : CiteTaskValue E P → MentionState → Written) (homes : List (HomeValue E P)) where
     abbrev subjects : List (Subject (CiteTaskValue E P))
-    subjects = mentions_at offset homes
+    subjects = mentions_at offset again homes
 
     abbrev states : List MentionState
     states = third_table write subjects
@@ -75,10 +66,3 @@ module _ {E P : Type 0} (offset : ℕ) where
 
     pub laters-count : length (every_second false states) ≡ length homes
     laters-count = ap (λ l. length (every_second false l)) (third-table write subjects) ∙ others-from state 0 homes
-
-    -- the later mentions in these states
-    pub laters-are : laters_in write subjects states ≡ mentions_in write (filter (λ s. not s.is_first) subjects) (every_second false states)
-    laters-are =
-        let are : states ≡ map state subjects = third-table write subjects in
-        ap (λ l. laters_in write subjects l) are ∙ ap (λ (ms : List Mention). filter (λ m. not m.is_first) ms) (read-by write subjects state)
-        ∙ laters-from state write 0 homes ∙ ap (λ l. mentions_in write (filter (λ s. not s.is_first) subjects) (every_second false l)) (sym are)

@@ -1,6 +1,6 @@
 -- What a caller may rely on of an answer in which works are told apart as CSL 1.0.2 has it, and of
 -- its account, without reading how these are made.
-use Rattle.std.specs.Prelude.{◌≡◌, ℕ, ◌+◌, ◌*◌, ◌-◌, ◌^◌, ◌≤◌, Bool, true, not, List, None, Some, filter, length, min}
+use Rattle.std.specs.Prelude.{◌≡◌, ℕ, ◌+◌, ◌*◌, ◌-◌, ◌^◌, ◌≤◌, Bool, true, List, None, Some, filter, length, min}
 use Rattle.std.specs.List.{AllZip, range_with_len}
 use Rattle.csl_assembly.specs.declared.rendered.Rendered.{Rendered}
 use Rattle.csl_entries.specs.Entries.{distinct, is_in}
@@ -14,7 +14,7 @@ use Rattle.csl_tables.specs.Tables.{mentions_in}
 use Rattle.csl_told_laws.specs.Ambiguous.{ConditionHolds, OnlyAmbiguous}
 use Rattle.csl_told_laws.specs.Growing.{StatesGrow}
 use Rattle.csl_told_laws.specs.Shown.{NamesTell}
-use Rattle.csl_told_laws.specs.SuffixLaws.{NothingIsLeft, SuffixesCount}
+use Rattle.csl_told_laws.specs.SuffixLaws.{NoneInVain, NothingIsLeft, SuffixesCount}
 use Rattle.csl_told_laws.specs.TellingLaws.{has_names, rounds_of}
 use Rattle.csl_writers.specs.Writing.{Writing}
 use Rattle.csl_driver.specs.Account.{where_listed}
@@ -80,25 +80,26 @@ module _ {E P : Type 0} (eq : E → E → Bool) (job : Job E P) where
     pub three_rounds : account.rounds ≤ 3
 
   module _ (writing : Writing E P) where
-    -- the later mentions of the entries, as they are written in the end
-    abbrev pub laters_had : CslAccount E → List Mention
-    laters_had account = mentions_in (read eq job writing)
-        (filter (λ s. not s.is_first) (mentions eq job)) account.later_mentions.items
+    -- the mentions of the entries, as they are written in the end
+    abbrev pub mentions_had : CslAccount E → List Mention
+    mentions_had account = mentions_in (read eq job writing) (mentions eq job) (states_had account)
 
     -- the states and the suffixes of an account, by how mentions are written
     pub record TellsWorksApart (account : CslAccount E) : Type 0 where
-      -- suffixes are 0, 1 and so on among the entries whose later mentions read alike, in the order
-      -- of the bibliography
-      pub suffixes_count : SuffixesCount (laters_had account) account.suffixes.items
-      -- two entries whose later mentions read alike have suffixes that differ, if the style of
-      -- either adds any
-      pub none_left : NothingIsLeft (laters_had account) account.suffixes.items
+      -- suffixes are 0, 1 and so on among the entries that read alike in cites, and whose later
+      -- mentions do, in the order of the bibliography
+      pub suffixes_count : SuffixesCount (mentions_had account) account.suffixes.items
+      -- two entries whose later mentions occur and read alike have suffixes that differ, if the
+      -- style of either adds any
+      pub none_left : NothingIsLeft (mentions_had account) account.suffixes.items
+      -- none is given in vain: cites show the entry like another one, whose suffix differs
+      pub none_in_vain : NoneInVain (mentions_had account) account.suffixes.items
       -- the states once names told mentions apart, before the condition was made to hold
       pub by_names : List MentionState
-      -- names that can tell two mentions apart do
+      -- names that can tell two mentions that occur apart do
       pub names_tell : NamesTell (read eq job writing) (mentions eq job) (states_had account)
-      -- the condition holds exactly where a mention tested it, and reads by its names as one of
-      -- another entry
+      -- the condition holds exactly where a mention tested it, and reads by its names as mentions
+      -- of two entries that occur
       pub condition : ConditionHolds (read eq job writing) (mentions eq job) by_names
           (states_had account)
       -- states grow: by names first, then by the condition

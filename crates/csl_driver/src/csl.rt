@@ -24,7 +24,7 @@ use csl_cited_mentions::kept::KeptOfMention;
 use csl_cited_mentions::mention::CiteMention;
 use csl_passes::acyclic::AcyclicRequest;
 use csl_passes::renders::{Cites, SpeculativeCiteRender};
-use csl_requested_mentions::handed::notes_of_cites;
+use csl_requested_mentions::handed::{cited_again, notes_of_cites};
 use csl_requested_mentions::homes::homes;
 use csl_requested_mentions::mentions::mentions;
 use csl_requested_mentions::properties::properties_of_mentions;
@@ -107,9 +107,10 @@ impl<'d, 'o, 'a, T: EntryLike, P: Eq + Drop> Draft<'d, 'o, 'a, T, P> {
         let cited = self.cited;
         let requests = self.requests.requests;
         let notes = notes_of_cites(alloc, requests, &cited.table, &cited.listing)?;
+        let again = cited_again(alloc, requests, &cited.table, &cited.listing)?;
         let homes = homes(alloc, self.requests, &cited.listing, &notes)?;
         let properties = properties_of_mentions(alloc, &homes, cited.offset)?;
-        let mentions = mentions(alloc, &homes, &properties)?;
+        let mentions = mentions(alloc, &homes, &again, &properties)?;
         let told = self.told_apart(alloc, &mentions, writer, counter)?;
         let (ordered, cites) = self.cites_in_order(
             alloc, &notes, &told, &mentions, writer, counter,

@@ -1,5 +1,6 @@
 pub mod Walking
 pub mod Handing
+pub mod Again
 pub mod Cutting
 pub mod Standing
 pub mod Gathering

@@ -1,9 +1,17 @@
 -- Two of each member, one member more.
 use Rattle.std.proofs.Common.{◌≡◌, ℕ, zero, suc, ◌+◌, ◌*◌, ◌<◌, ◌≤◌, Bool, true, false, List, [], ◌∷◌, ◌++◌, length, map, drop, get_or, refl, ap, sym, ◌∙◌, append-nil, append_assoc, arith}
-use Rattle.std.specs.Prelude.{flat_map}
-use Rattle.std.specs.List.{enumerate_from}
+use Rattle.std.specs.Prelude.{flat_map, nat_eq}
+use Rattle.std.specs.List.{enumerate_from, list_any}
 use Rattle.std.proofs.lemmas.List.{drop_all, get_or-map, length-map, map-append}
+use Rattle.csl_tables.specs.declared.subject.Subject.{Subject}
+use Rattle.csl_writers.specs.Tasks.{CiteTaskValue}
+use Rattle.csl_requested_mentions.specs.Homes.{HomeValue}
+use Rattle.csl_requested_mentions.specs.Mentions.{mention}
 use Rattle.csl_requested_mentions.proofs.Walking.{opened}
+
+-- the mentions of an entry by its index, where these are cited again
+abbrev pub by_index : {E P : Type 0} → ℕ → List ℕ → ℕ → HomeValue E P → Bool → Subject (CiteTaskValue E P)
+by_index offset again n = mention offset (list_any (nat_eq n) again) n
 
 module _ {H Y : Type 0} (f : ℕ → H → Bool → Y) where
   -- of each with its number

@@ -1,6 +1,6 @@
 -- The two mentions of each entry of the bibliography, by its home: the first one reads as its first
 -- cite, the later one as a cite that names it again.
-use Rattle.std.specs.Prelude.{ℕ, ◌+◌, Bool, true, false, not, ◌&&◌, List, [], ◌∷◌, None, Option, Some, flat_map, if◌then◌else◌}
+use Rattle.std.specs.Prelude.{ℕ, ◌+◌, Bool, true, false, not, ◌&&◌, ◌||◌, List, [], ◌∷◌, None, Option, Some, flat_map, if◌then◌else◌}
 use Rattle.std.specs.List.{enumerate_from}
 use Rattle.csl_lookup.specs.NoProperties.{speculated}
 use Rattle.csl_lookup.specs.Properties.{Properties}
@@ -12,6 +12,7 @@ use Rattle.csl_style_values.specs.Style.{CitationValue}
 use Rattle.csl_style_values.specs.declared.style.DisambiguationRule.{DisambiguationRule}
 use Rattle.csl_tables.specs.declared.subject.Subject.{Subject}
 use Rattle.csl_writers.specs.Tasks.{CiteTaskValue}
+use Rattle.csl_requested_mentions.specs.Handed.{is_cited_again}
 use Rattle.csl_requested_mentions.specs.Homes.{HomeValue, homes_of}
 
 -- the rule by which a style adds given names, if it does
@@ -55,24 +56,27 @@ module _ {E P : Type 0} where
     place = None;
   }
 
-  -- and with what that style may do
-  abbrev pub mention : ℕ → ℕ → HomeValue E P → Bool → Subject (CiteTaskValue E P)
-  mention offset index home is_first = record {
+  -- and with what that style may do; the later one occurs where the entry is cited again
+  abbrev pub mention : ℕ → Bool → ℕ → HomeValue E P → Bool → Subject (CiteTaskValue E P)
+  mention offset again index home is_first = record {
     mention = mention_task (offset + index) home is_first;
     entry = index;
     is_first = is_first;
+    occurs = is_first || again;
     adds_names = home.request.style.citation.disambiguate_add_names;
     rule = given_name_rule home.request.style.citation;
     adds_suffix = home.request.style.citation.disambiguate_add_year_suffix;
   }
 
   -- those of entries with these homes
-  abbrev pub mentions_at : ℕ → List (HomeValue E P) → List (Subject (CiteTaskValue E P))
-  mentions_at offset homes = flat_map
-      (λ p. mention offset p.0 p.1 true ∷ mention offset p.0 p.1 false ∷ [])
+  abbrev pub mentions_at : ℕ → (ℕ → Bool) → List (HomeValue E P)
+      → List (Subject (CiteTaskValue E P))
+  mentions_at offset again homes = flat_map
+      (λ p. mention offset (again p.0) p.0 p.1 true ∷ mention offset (again p.0) p.0 p.1 false ∷ [])
       (enumerate_from 0 homes)
 
 -- those of all entries of the bibliography
 abbrev pub mentions_of : {E P : Type 0} → (E → E → Bool) → ℕ → List E → List (Request E P)
     → List (Subject (CiteTaskValue E P))
-mentions_of eq offset listed requests = mentions_at offset (homes_of eq listed requests)
+mentions_of eq offset listed requests =
+    mentions_at offset (is_cited_again eq listed requests) (homes_of eq listed requests)

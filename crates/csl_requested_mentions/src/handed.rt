@@ -1,5 +1,6 @@
 //! What is known of each cite by those before it, in the order in which they are handed in.
-ghost use Rattle.std.specs.Prelude.{◌≡◌, ◌++◌, IfOk, List, OnOk, length, map};
+ghost use Rattle.std.specs.Prelude.{◌≡◌, ◌++◌, ◌&&◌, ◌||◌, ℕ, IfOk, List, OnOk, length, map, nat_eq, not};
+ghost use Rattle.std.specs.List.{list_any, zip};
 ghost use Rattle.csl_entries.specs.Entries.{distinct};
 ghost use Rattle.csl_entries.specs.Listed.{IsListingOf};
 ghost use Rattle.csl_entries.specs.ListingView.{listing_view};
@@ -7,7 +8,7 @@ ghost use Rattle.csl_entries.specs.Table.{table_of};
 ghost use Rattle.csl_entries.specs.TableView.{table_view};
 ghost use Rattle.csl_passes.specs.Request.{cited, cites_of};
 ghost use Rattle.csl_passes.specs.RequestView.{request_view, requests_view};
-ghost use Rattle.csl_requested_mentions.specs.Handed.{cite_counts, notes_of_cites, parts};
+ghost use Rattle.csl_requested_mentions.specs.Handed.{cite_counts, is_cited_again, is_later, notes_of_cites, parts};
 ghost use Rattle.csl_requested_mentions.specs.Steps.{handed_at, handed_by};
 
 use csl_base::entry::EntryLike;
@@ -15,6 +16,7 @@ use csl_entries::listing::Listing;
 use csl_entries::table::EntryTable;
 use csl_notes::notes::{CiteNotes, HandedCite, notes_of};
 use csl_passes::request::CitationRequest;
+use indexmap::IndexSet;
 use std::alloc::{AllocError, Global};
 
 /// Adds the cites of a request, whose entries are at these places of a table.
@@ -57,6 +59,58 @@ fn handed_cites<'a, T: EntryLike, P>(
         push_handed(&mut cites, request, &places[k], listing)?;
     }
     Ok(cites)
+}
+
+/// Adds an entry, if a cite of it isn't the first one.
+fn add_if_again(again: &mut IndexSet<usize>, entry: usize, is_first: bool) -> Result<(), AllocError>
+    ensures { OnOk result ((n : ℕ) → list_any (nat_eq n) again.new.keys
+        ≡ (list_any (nat_eq n) again.old.keys || (nat_eq n entry && not is_first))) }
+{
+    if !is_first {
+        again.insert(entry)?;
+    }
+    Ok(())
+}
+
+/// The entries of those of these cites that aren't the first ones.
+fn again_among(
+    alloc: Global,
+    cites: &[HandedCite],
+    notes: &[CiteNotes],
+) -> Result<IndexSet<usize>, AllocError>
+    requires { length notes.now ≡ length cites.now }
+    ensures { IfOk result (λ s. (n : ℕ) → list_any (nat_eq n) s.keys
+        ≡ list_any (is_later n) (zip cites.now notes.now)) }
+{
+    let mut again = IndexSet::new(alloc);
+    for k in 0..cites.len() {
+        add_if_again(&mut again, cites[k].entry, notes[k].is_first)?;
+    }
+    Ok(again)
+}
+
+/// The entries that are cited again, by their indices in the listing. The table is that of the
+/// requests, and the listing names its entries, as that of a bibliography does.
+///
+/// # Errors
+///
+/// Where memory is refused.
+pub fn cited_again<'a, T: EntryLike, P>(
+    alloc: Global,
+    requests: &[CitationRequest<'a, T, P>],
+    table: &EntryTable<'a, T>,
+    listing: &Listing,
+) -> Result<IndexSet<usize>, AllocError>
+    requires { table_view table.now ≡ table_of T.eq (requests_view requests.now) }
+    ensures { IfOk result (λ s. (listed : List T)
+        → IsListingOf T.eq (distinct T.eq (cited (requests_view requests.now))) listed
+        (listing_view listing.now)
+        → (n : ℕ) → list_any (nat_eq n) s.keys
+        ≡ is_cited_again T.eq listed (requests_view requests.now) n) }
+{
+    let cites = handed_cites(alloc, requests, table, listing)?;
+    let notes = notes_of(alloc, &cites)?;
+    again_among(alloc, &cites, &notes)
 }
 
 /// The notes of all cites, cut into those of each request.

@@ -29,10 +29,12 @@ told_apart-requires g c =
     let job = job_in draft in
     let notes = ap (map (λ n. n.items)) c.deref.ensures.value ∙ c.in_ok-notes.ensures.notes (listed eq job) draft.known.listed in
     let homes = c.in_ok-homes.ensures.homes (listed eq job) draft.known.listed notes in
+    let again = c.in_ok-again.ensures (listed eq job) draft.known.listed in
     let properties =
     ap (map properties_view) c.deref-4.ensures.value ∙ c.in_ok-properties.ensures.properties
     ∙ ap (λ hs. all_properties job.offset (homes_view hs)) (c.deref-2.ensures.value ∙ sym c.deref-3.ensures.value) in
-    ap (map plain) c.deref-5.ensures.value ∙ c.in_ok-mentions.ensures job.offset properties ∙ ap (mentions_at job.offset) (ap homes_view c.deref-3.ensures.value ∙ homes)
+    ap (map plain) c.deref-5.ensures.value ∙ c.in_ok-mentions.ensures job.offset properties
+    ∙ (λ i. mentions_at job.offset (λ n. again n i) ((ap homes_view c.deref-3.ensures.value ∙ homes) i))
 
 pub cites_in_order-requires : goal.cites_in_order-requires
 cites_in_order-requires g c =
@@ -41,13 +43,15 @@ cites_in_order-requires g c =
     let job = job_in draft in
     let notes = ap (map (λ n. n.items)) c.deref.ensures.value ∙ c.in_ok-notes.ensures.notes (listed eq job) draft.known.listed in
     let homes = c.in_ok-homes.ensures.homes (listed eq job) draft.known.listed notes in
+    let again = c.in_ok-again.ensures (listed eq job) draft.known.listed in
     let properties =
     ap (map properties_view) c.deref-4.ensures.value ∙ c.in_ok-properties.ensures.properties
     ∙ ap (λ hs. all_properties job.offset (homes_view hs)) (c.deref-2.ensures.value ∙ sym c.deref-3.ensures.value) in
     record {
       notes = ap (map (λ n. n.items)) c.deref-6.ensures.value ∙ c.in_ok-notes.ensures.notes (listed eq job) draft.known.listed;
       counts = ap (map (λ n. length n.items)) c.deref-6.ensures.value ∙ c.in_ok-notes.ensures.counts;
-      subjects = ap (map plain) c.deref-7.ensures.value ∙ c.in_ok-mentions.ensures job.offset properties ∙ ap (mentions_at job.offset) (ap homes_view c.deref-3.ensures.value ∙ homes);
+      subjects = ap (map plain) c.deref-7.ensures.value ∙ c.in_ok-mentions.ensures job.offset properties
+          ∙ (λ i. mentions_at job.offset (λ n. again n i) ((ap homes_view c.deref-3.ensures.value ∙ homes) i));
     }
 
 pub returns : goal.returns
