@@ -11,7 +11,8 @@ from ._pandoc_marks import without_marks
 from .answer import Bibliography, Citation, Tree
 from .csl.abbreviations import abbreviations_of
 from .csl.cites import CitationPart, CitationParts, CitationReader
-from .csl.rendering import Renderer
+from .csl.kept import Kept
+from .csl.rendering import Renderer, read_entries
 from .csl.style import load
 
 Item = Dict[str, Any]
@@ -162,8 +163,8 @@ class CitedStyle:
     def _rendering(self) -> Renderer:
         """The style with its references, which are read once."""
         if self._renderer is None:
-            self._renderer = Renderer(load(self.name), list(self.items.values()), self.locale,
-                                      self.locales, self._abbreviations, is_kept=True)
+            self._renderer = Renderer(load(self.name), read_entries(list(self.items.values())),
+                                      self.locale, self.locales, self._abbreviations, kept=Kept())
         return self._renderer
 
 

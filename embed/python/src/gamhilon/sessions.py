@@ -11,9 +11,9 @@ from ._library import library
 from ._library_session import LibrarySession, SessionFault
 from ._limits import style_limits
 from .csl.abbreviations import Abbreviations, AbbreviationsLike, abbreviations_of
-from .csl.calling import Document, EntryTexts, bytes_of, json_of
+from .csl.calling import Document, bytes_of, json_of
 from .csl.cites import Citation, CitationLike, CitationReader
-from .csl.entries import EntryReader
+from .csl.entries import EntryReader, EntryTexts
 from .csl.handed_in import ReferencesLike, StyleLike, read_of, style_of
 from .csl.locales import LocaleFile, Locales, files_for, with_dialect
 from .csl.rendering import LANGUAGE

@@ -12,31 +12,13 @@ from ..errors import StyleLimitExceeded, TextRefused
 from ..texts import TextFault, TextWarning
 from .abbreviations import Abbreviations
 from .cites import Citation, json_of_citations
-from .entries import Entry
+from .entries import Entry, EntryTexts
 from .errors import (AbbreviationsRefused, CitationRefused, EntriesRefused, StyleRefused,
                      place)
 from .kept import KeptAnswers
 from .locales import LocaleFile
 from .style import Style
 from .warned import Warned
-
-
-class EntryTexts:
-    """The JSON of entries, which is made once for each of them."""
-
-    def __init__(self) -> None:
-        self._made: Dict[str, Tuple[Entry, str]] = {}
-
-    def json(self, entries: Sequence[Entry]) -> bytes:
-        """The JSON of a list of entries."""
-        return f'[{", ".join(map(self._of, entries))}]'.encode('utf-8', 'replace')
-
-    def _of(self, entry: Entry) -> str:
-        key = str(entry['id'])
-        known = self._made.get(key)
-        if known is None or known[0] is not entry:
-            known = self._made[key] = entry, json.dumps(entry, ensure_ascii=False)
-        return known[1]
 
 
 @dataclass(frozen=True)

@@ -3,7 +3,7 @@ from __future__ import annotations
 
 import json
 from collections import abc
-from typing import Any, Dict, Iterable, List, Mapping
+from typing import Any, Dict, Iterable, List, Mapping, Sequence, Tuple
 
 from .errors import EntriesRefused
 from .warned import Warned
@@ -12,6 +12,24 @@ Entry = Dict[str, Any]
 """An entry: an item of CSL-JSON."""
 
 _DEEPEST = 100
+
+
+class EntryTexts:
+    """The JSON of entries, which is made once for each of them."""
+
+    def __init__(self) -> None:
+        self._made: Dict[str, Tuple[Entry, str]] = {}
+
+    def json(self, entries: Sequence[Entry]) -> bytes:
+        """The JSON of a list of entries."""
+        return f'[{", ".join(map(self._of, entries))}]'.encode('utf-8', 'replace')
+
+    def _of(self, entry: Entry) -> str:
+        key = str(entry['id'])
+        known = self._made.get(key)
+        if known is None or known[0] is not entry:
+            known = self._made[key] = entry, json.dumps(entry, ensure_ascii=False)
+        return known[1]
 
 
 class EntryReader:

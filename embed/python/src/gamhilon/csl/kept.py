@@ -14,7 +14,7 @@ from ..answer import Citation as WrittenCitation
 from ..errors import LibraryMissing
 from ..texts import TextWarning
 from .cites import Citation
-from .entries import Entry
+from .entries import Entry, EntryTexts
 
 if TYPE_CHECKING:
     from .calling import Document
@@ -51,6 +51,19 @@ class KeptAnswers:
             self.close()
             self._held = _Held(texts)
         return self._held
+
+
+class Kept:
+    """What is kept of documents with much the same entries: the answers to them, the answers to
+    some of their citations alone, and the JSON of entries."""
+
+    def __init__(self) -> None:
+        self.answers, self.alone, self.texts = KeptAnswers(), KeptAnswers(), EntryTexts()
+
+    def close(self) -> None:
+        """Frees what the library keeps."""
+        self.answers.close()
+        self.alone.close()
 
 
 class _Held:
@@ -90,7 +103,7 @@ class _Held:
     def _put(self, document: Document) -> None:
         """Puts the entries that are new or changed."""
         new = [entry for entry in document.entries
-               if self._entries.get(str(entry['id'])) is not entry]
+               if self._entries.get(str(entry['id'])) != entry]
         if not new:
             return
         self._session.edit('put_items', document.entries_json(new))

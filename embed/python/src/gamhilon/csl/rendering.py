@@ -2,7 +2,7 @@
 from __future__ import annotations
 
 from dataclasses import replace
-from typing import Dict, Iterable, List, Mapping, Optional, Sequence, Tuple, Union
+from typing import Dict, Iterable, List, Mapping, NamedTuple, Optional, Sequence, Tuple, Union
 
 from .._deprecated import deprecated
 from .._limits import style_limits
@@ -11,12 +11,12 @@ from ..answer import Answer, Item, Node, Tree
 from ..answer import Citation as WrittenCitation
 from ..errors import TextRefused
 from .abbreviations import Abbreviations, AbbreviationsLike, abbreviations_of
-from .calling import Document, EntryTexts, steps_of
+from .calling import Document, steps_of
 from .cites import Citation, CitationLike, CitationReader, Cite, ids_of
-from .entries import Entry, EntryReader, stand_in, warned_of_stand_in
+from .entries import Entry, EntryReader, EntryTexts, stand_in, warned_of_stand_in
 from .errors import CitationRefused, StyleRefused, place
 from .handed_in import ReferencesLike, StyleLike, read_of, style_of
-from .kept import KeptAnswers
+from .kept import Kept, KeptAnswers
 from .locales import LocaleFile, Locales, files_for, with_dialect
 from .results import Rendered
 from .style import About, Style, is_locale, language_of, load, name_of
@@ -76,29 +76,43 @@ def render(style: StyleLike, references: Optional[ReferencesLike] = None,
     reader = CitationReader()
     found = load(style_of(style))
     cites = reader.citations(() if citations is None else citations)
-    renderer = Renderer(found, given, locale, locales, abbreviations_of(abbreviations),
-                        style_limits(most_steps, most_bytes), is_draft=draft)
+    renderer = Renderer(found, read_entries(given), locale, locales,
+                        abbreviations_of(abbreviations), style_limits(most_steps, most_bytes),
+                        is_draft=draft)
     return renderer.render(cites, '*' if citations is None else nocite, reader.warnings)
 
 
-class Renderer:
-    """A style with references, which are read once, and write citations as often as they are asked
-    for. One that `is_kept` answers to much the same again and again, and writes and reads what has
-    changed. Raises what `render` raises of them."""
+class ReadEntries(NamedTuple):
+    """Entries by their ids, and what is odd in them."""
 
-    def __init__(self, style: Style, references: ReferencesLike, locale: Optional[str] = None,
+    entries: Dict[str, Entry]
+    warnings: List[Warned]
+
+
+def read_entries(references: ReferencesLike) -> ReadEntries:
+    """References as entries. Raises EntriesRefused where they are no list."""
+    reader = EntryReader()
+    items, odd = read_of(references)
+    entries = reader.entries(items)
+    return ReadEntries(entries, [*odd, *reader.warnings])
+
+
+class Renderer:
+    """A style with entries, which write citations as often as they are asked for. Where something is
+    `kept`, what was written and read before isn't written and read again. Raises what `render`
+    raises of them."""
+
+    def __init__(self, style: Style, read: ReadEntries, locale: Optional[str] = None,
                  locales: Optional[Locales] = None, abbreviations: Optional[Abbreviations] = None,
-                 limits: Optional[Mapping[str, int]] = None, is_kept: bool = False,
+                 limits: Optional[Mapping[str, int]] = None, kept: Optional[Kept] = None,
                  is_draft: bool = False) -> None:
-        reader = EntryReader()
-        items, odd = read_of(references)
         self._style, self._locales, self._abbreviations = style, locales, abbreviations
-        self._entries, self._warnings = reader.entries(items), [*odd, *reader.warnings]
+        self._entries, self._warnings = read
         self._limits, self._is_draft = limits, is_draft
         self._language = with_dialect(locale or style.language or LANGUAGE)
         self._files: Optional[List[LocaleFile]] = None
-        self._texts = EntryTexts()
-        self._answers, self._alone = (KeptAnswers(), KeptAnswers()) if is_kept else (None, None)
+        self._texts = kept.texts if kept else EntryTexts()
+        self._answers, self._alone = (kept.answers, kept.alone) if kept else (None, None)
 
     def render(self, citations: Sequence[Citation], nocite: Union[str, Iterable[str]] = (),
                warnings: Sequence[Warned] = ()) -> Rendered:
@@ -182,11 +196,10 @@ def check_locale(text: str, file: str = 'the locale') -> List[Warned]:
 def check_references(references: ReferencesLike) -> List[Warned]:
     """What is odd in references, as `render` takes them. Raises EntriesRefused where they are no
     list, or where one isn't of its form."""
-    reader = EntryReader()
-    items, odd = read_of(references)
-    known = list(reader.entries(items).values())
+    entries, odd = read_entries(references)
+    known = list(entries.values())
     found = _refuse(replace(_of_style(load('author-date')), entries=known))
-    return [*odd, *reader.warnings, *found]
+    return [*odd, *found]
 
 
 def check_entries(entries: ReferencesLike) -> List[Warned]:

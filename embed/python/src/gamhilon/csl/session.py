@@ -9,10 +9,11 @@ from .._limits import style_limits
 from ..answer import Answer, Node, Tree
 from .abbreviations import AbbreviationsLike, abbreviations_of
 from .cites import CitationLike, CitationReader
-from .entries import Entry, EntryReader
-from .handed_in import ReferencesLike, StyleLike, read_of, style_of
+from .entries import Entry
+from .handed_in import ReferencesLike, StyleLike, style_of
+from .kept import Kept
 from .locales import Locales
-from .rendering import Renderer
+from .rendering import ReadEntries, Renderer, read_entries
 from .results import Rendered
 from .style import load
 from .warned import Warned
@@ -93,8 +94,8 @@ class Session:
         self._nocite = nocite if isinstance(nocite, str) else list(nocite)
         self._options = (locale, locales, abbreviations_of(abbreviations),
                          style_limits(most_steps, most_bytes))
-        self._style = load(style_of(style))
-        self._entries, self._odd = _read(references)
+        self._style, self._kept = load(style_of(style)), Kept()
+        self._entries, self._odd = read_entries(references)
         self._renderer: Optional[Renderer] = self._renderer_of(self._entries)
         self._given = _NOTHING
 
@@ -108,6 +109,7 @@ class Session:
     def close(self) -> None:
         """Lets go of all that was read. No other call follows."""
         self._renderer, self._entries, self._given = None, {}, _NOTHING
+        self._kept.close()
 
     def update(self, citations: Iterable[CitationLike]) -> Changes:
         """Writes these citations, and says what changed since the last update."""
@@ -121,7 +123,7 @@ class Session:
     def put(self, references: ReferencesLike) -> None:
         """Adds references; those whose ids are known take the places of the known ones."""
         self._opened()
-        entries, odd = _read(references)
+        entries, odd = read_entries(references)
         self._replace({**self._entries, **entries})
         self._odd += odd
 
@@ -144,21 +146,13 @@ class Session:
     def _replace(self, entries: Dict[str, Entry]) -> None:
         self._renderer, self._entries = self._renderer_of(entries), entries
 
-    def _renderer_of(self, entries: Mapping[str, Entry]) -> Renderer:
-        return Renderer(self._style, list(entries.values()), *self._options, is_kept=True)
+    def _renderer_of(self, entries: Dict[str, Entry]) -> Renderer:
+        return Renderer(self._style, ReadEntries(entries, []), *self._options, kept=self._kept)
 
     def _opened(self) -> Renderer:
         if self._renderer is None:
             raise ValueError('the session is closed')
         return self._renderer
-
-
-def _read(references: ReferencesLike) -> Tuple[Dict[str, Entry], List[Warned]]:
-    """References by their ids, and what is odd in them."""
-    reader = EntryReader()
-    items, odd = read_of(references)
-    entries = reader.entries(items)
-    return entries, [*odd, *reader.warnings]
 
 
 def _given_of(answer: Answer, asked: Sequence[Any]) -> _Given:
