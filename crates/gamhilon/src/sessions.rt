@@ -10,6 +10,14 @@ use session_lines::lines::LineSession;
 /// `Unreadable`; `Output`; `OutOfMemory`.
 pub(crate) fn answer_lines(rt: &(impl Input + Print + AllocGlobal)) -> Result<(), CommandError> {
     let mut session = LineSession::new();
+    answer_all(rt, &mut session)
+}
+
+/// Answers each line by what a session says to it.
+fn answer_all(
+    rt: &(impl Input + Print + AllocGlobal),
+    session: &mut LineSession,
+) -> Result<(), CommandError> {
     for line in rt.lines(rt.alloc()) {
         let line = match line {
             Ok(line) => line,
