@@ -85,7 +85,7 @@ def test_a_suffix_that_another_edit_gives(cites):
 
 
 @pytest.mark.parametrize('form, text', [
-    ('html', '<i>A Title</i>'), ('markdown', '*A Title*'), ('latex', r'\emph{A Title}')])
+    ('html', '<i>A Title</i>'), ('markdown', '*A Title*'), ('latex', r'\textit{A Title}')])
 def test_forms(cites, form, text):
     with gamhilon.Session('author-date', WORKS, form=form) as session:
         session.update([[{'id': 'doe99'}]])
