@@ -14,7 +14,7 @@ import gamhilon
 from gamhilon import _library, csl, csl_json, markdown_pages, references
 
 FOREIGN = {'gamhilon.mkdocs_plugin', 'gamhilon.python_markdown'}
-INNER = {'_Failed', 'OutputFailed', '_Unknown'}
+INNER = {'_Failed', 'OutputFailed', 'SessionFault', '_Unknown'}
 # (which no call of the package raises)
 
 
