@@ -56,6 +56,7 @@ _gamhilon() {
         cite:--to) _gamhilon_offer "$@" words text html markdown latex json ;;
         cite:--most-steps) _gamhilon_offer "$@" nothing ;;
         cite:--most-bytes) _gamhilon_offer "$@" nothing ;;
+        cite:--from) _gamhilon_offer "$@" words json csljson csl-json bibtex biblatex ris ;;
         cite:--references) _gamhilon_offer "$@" files ;;
         bibliography:--style) _gamhilon_offer "$@" styles ;;
         bibliography:--locale) _gamhilon_offer "$@" nothing ;;
@@ -65,25 +66,30 @@ _gamhilon() {
         bibliography:--to) _gamhilon_offer "$@" words text html markdown latex json ;;
         bibliography:--most-steps) _gamhilon_offer "$@" nothing ;;
         bibliography:--most-bytes) _gamhilon_offer "$@" nothing ;;
+        bibliography:--from) _gamhilon_offer "$@" words json csljson csl-json bibtex biblatex ris ;;
         bibliography:--references) _gamhilon_offer "$@" files ;;
         render:--to) _gamhilon_offer "$@" words text json ;;
         render:--depth) _gamhilon_offer "$@" nothing ;;
         render:--elements) _gamhilon_offer "$@" nothing ;;
+        entries:--from) _gamhilon_offer "$@" words json csljson csl-json bibtex biblatex ris ;;
         *)
             case $command:$current in
-                cite:-*) _gamhilon_offer "$@" words --style --locale --styles --locales --abbreviations --to --standalone --nocite --most-steps --most-bytes --references --link-citations --with-bibliography -h --help ;;
+                cite:-*) _gamhilon_offer "$@" words --style --locale --styles --locales --abbreviations --to --standalone --nocite --draft --most-steps --most-bytes --from --references --link-citations --with-bibliography -h --help ;;
                 cite:*) _gamhilon_offer "$@" files ;;
-                bibliography:-*) _gamhilon_offer "$@" words --style --locale --styles --locales --abbreviations --to --standalone --nocite --most-steps --most-bytes --references -h --help ;;
+                bibliography:-*) _gamhilon_offer "$@" words --style --locale --styles --locales --abbreviations --to --standalone --nocite --draft --most-steps --most-bytes --from --references -h --help ;;
                 bibliography:*) _gamhilon_offer "$@" files ;;
+                session:-*) _gamhilon_offer "$@" words -h --help ;;
                 render:-*) _gamhilon_offer "$@" words --to --depth --elements -h --help ;;
                 render:*) _gamhilon_offer "$@" files ;;
                 check:-*) _gamhilon_offer "$@" words -h --help ;;
                 check:*) _gamhilon_offer "$@" files ;;
+                entries:-*) _gamhilon_offer "$@" words --from -h --help ;;
+                entries:*) _gamhilon_offer "$@" files ;;
                 styles:-*) _gamhilon_offer "$@" words -h --help ;;
                 styles:*) _gamhilon_offer "$@" names ;;
                 css:-*) _gamhilon_offer "$@" words -h --help ;;
                 :-*) _gamhilon_offer "$@" words -h --help -V --version ;;
-                :* | help:*) _gamhilon_offer "$@" words cite bibliography render check styles css help ;;
+                :* | help:*) _gamhilon_offer "$@" words cite bibliography session render check entries styles css help ;;
                 *) _gamhilon_offer "$@" nothing ;;
             esac
             ;;
