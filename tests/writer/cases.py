@@ -124,7 +124,7 @@ FORMATTED = '<group delimiter=" ">%s</group>' % ''.join('<text variable="title" 
 CASES = [
     # Markdown and LaTeX
     in_form('letters of Markdown', 'a backslash stands before a letter that Markdown reads as its own', 'markdown', TEXT,
-            (r'\ ` * _ { } [ ] < > # | ~ ^ $ @ & % !', r'\\ \` \* \_ \{ \} \[ \] \< \> \# \| \~ \^ \$ \@ \& % \!'),
+            (r'\ ` * _ { } [ ] < > # | ~ ^ $ @ & % !', r'\\ \` \* \_ \{ \} \[ \] \< \> \# \| \~ \^ \$ \@ &amp; % \!'),
             ('a--b---c d', r'a-\-b-\-\-c d'), ('www.a.b http://a.b a:b:c a: b', r'www\.a.b http\://a.b a\:b:c a: b')),
     in_form('beginnings of lists', 'no paragraph begins as an item of a list, a heading or a quotation', 'markdown', TEXT,
             ('1. x', r'1\. x'), ('12) x', r'12\) x'), ('(a) x', r'(a\) x'), ('iv. x', r'iv\. x'), ('XI) x', r'XI\) x'), ('+ x', r'\+ x'),

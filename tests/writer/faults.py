@@ -183,7 +183,7 @@ TWO = {'s.csl': style_of('<text variable="title"/>'), 'c.json': '[[{"id": "b"}]]
 
 FAULTS = [
     # Command lines
-    usage('no word', "'gamhilon' requires a subcommand but one was not provided [subcommands: cite, bibliography, render, check, styles, css, help]"),
+    usage('no word', "'gamhilon' requires a subcommand but one was not provided [subcommands: cite, bibliography, session, render, check, entries, styles, css, help]"),
     usage('an unknown command', "unrecognized subcommand 'print'", 'print'),
     usage('a command that is nearly one', "unrecognized subcommand 'cited'; tip: a similar subcommand exists: 'cite'", 'cited'),
     usage('no style', 'the following required arguments were not provided: --style <STYLE>', 'cite', 'FILE/r.json', 'FILE/c.json'),
@@ -491,9 +491,9 @@ FAULTS = [
     drafted('what is missing behind cites in their order', 'notes', ['knuth', 'nobody'], 'Ann Knuth, <i>A</i> (1984); <b>nobody?</b>', ('0/1',)),
     drafted('what is hidden and missing', 'author-date', ['knuth', {'id': 'nobody', 'hidden': True}], '(Knuth 1984)', ('0/1',)),
     drafted('the author alone of what is missing', 'author-date', [{'id': 'nobody', 'author-only': True}], '<b>nobody?</b>'),
-    drafted('an item with a fault in a draft', 'author-date', ['knuth', 'doe'], '(Knuth 1984; <b>doe?</b>)', ('0/1',),
-            WORKS.replace('"B", "author": [', '"B", "author": [[], '),
-            ['FILE/r.json: warning: /1/author/0: found a list, wanted a name, …']),
+    drafted('an item with a fault in a draft', 'author-date', ['knuth', 'roe'], '(Knuth 1984; <b>roe?</b>)', ('0/1',),
+            WORKS.replace('"D", "author": [', '"D", "author": [[], '),
+            ['FILE/r.json: warning: /3/author/0: found a list, wanted a name, …']),
     Fault('a draft with an id that is nearly there', ['cite', '--draft', '--style', 'author-date', 'FILE/r.json', 'FILE/c.json'], 0,
           ['FILE/c.json: warning: /0/0: there is no item `knuht`; is it `knuth`?'],
           {'r.json': WORKS, 'c.json': '[[{"id": "knuht"}]]'}, out='(knuht?)\n'),
