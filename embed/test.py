@@ -410,7 +410,7 @@ def try_sessions(folder):
     """Sessions from C: a document that is edited, in a buffer that fits and in one of a byte;
     refused memory, threads, valgrind; and the example."""
     import texts
-    place = put_texts(folder, 'session', texts.SESSION)
+    place = put_texts(folder, 'edited', texts.SESSION)
     said = texts_of_session(folder, 1 << 15, place)
     hold(said == texts_of_session(folder, 1, place), 'a session in a buffer of one byte')
     statuses = [status for status, _ in said]

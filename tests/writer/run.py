@@ -23,6 +23,7 @@ import subprocess
 import sys
 import tempfile
 from concurrent.futures import ThreadPoolExecutor
+from itertools import islice
 
 HERE = os.path.dirname(os.path.abspath(__file__))
 ROOT = os.path.dirname(os.path.dirname(HERE))
@@ -277,8 +278,11 @@ def try_mutations(program, count, seed):
         return status != 0, most_seconds, most_memory
 
     files = mutated_files(styles, document['references'], document['citations'], count, seed)
+    results = []
     with ThreadPoolExecutor(os.cpu_count()) as pool:
-        results = list(pool.map(tried, files))
+        # (few at a time: a process begins with the memory of this one, which counts)
+        while few := list(islice(files, 1000)):
+            results += pool.map(tried, few)
     refused = sum(was_refused for was_refused, _, _ in results)
     seconds = max((took for _, took, _ in results), default=0)
     memory = max((most for _, _, most in results), default=0)
