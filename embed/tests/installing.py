@@ -60,7 +60,7 @@ def try_about(folder):
     hold(lines[1].startswith(build.version())
          and all(value in lines[1] for value in note().values() if value),
          'the version of the library')
-    hold(len(lines) == 14 and len(set(lines[2:])) == 10 and lines[3] == lines[11] == lines[13],
+    hold(len(lines) == 15 and len(set(lines[2:])) == 11 and lines[3] == lines[11] == lines[14],
          'each status has a text of its own, and others one')
 
 
