@@ -79,34 +79,48 @@ fn push_span<'s>(
         text_case: layout.text_case,
         ..Element::PLAIN
     })?;
+    push_dates(output, locales, layout, span, ends_of(layout, year_suffix))?;
+    output.close()?;
+    Ok(())
+}
+
+/// How the first and the last part of a date are written.
+fn ends_of<'t>(layout: &DateLayout<'_>, year_suffix: Option<&'t str>) -> Ends<'t> {
     let edge = if layout.is_localized {
         Edge::Trimmed
     } else {
         Edge::Kept
     };
-    let ends = Ends {
+    Ends {
         first: edge,
         last: edge,
         year_suffix,
-    };
+    }
+}
+
+/// Writes the dates of a span.
+fn push_dates<'s>(
+    output: &mut Output<'s>,
+    locales: &LocaleChain<'s>,
+    layout: &DateLayout<'s>,
+    span: &DateSpan,
+    ends: Ends<'_>,
+) -> Result<(), AllocError> {
     match span {
-        DateSpan::On(date) => push_parts(output, locales, &layout.parts, date, ends)?,
-        DateSpan::Between(first, last) => {
-            push_range(output, locales, layout, first, last, ends)?;
-        }
+        DateSpan::On(date) => push_parts(output, locales, &layout.parts, date, ends),
+        DateSpan::Between(first, last) => push_range(output, locales, layout, first, last, ends),
         DateSpan::Since(first) => {
             push_parts(output, locales, &layout.parts, first, ends)?;
-            output.push_str(open_delimiter(&layout.parts))?;
+            output.push_str(open_delimiter(&layout.parts))
         }
         DateSpan::Until(last) => {
             output.open(Element::PLAIN)?;
             output.push_str(open_delimiter(&layout.parts))?;
             push_block(output, locales, layout, &layout.parts, last, ends)?;
             output.close()?;
+            Ok(())
         }
     }
-    output.close()?;
-    Ok(())
 }
 
 /// What stands at the open end of a range.

@@ -20,7 +20,7 @@ module _ {V : Type 0} (eq : V → V → Bool) where
   is_tied None value = true
   is_tied (Some before) value = eq before value
 
-  -- the indexes of rows in groups of neighbours whose values are equal, the first of which has begun
+  -- the indexes of rows in groups of neighbours whose values are equal; the first group has begun
   abbrev pub runs : Option V → List ℕ → List (Row V) → List (List ℕ)
   runs before begun [] = begun ∷ []
   runs before begun (row ∷ rows) = if is_tied before row.value

@@ -287,7 +287,7 @@ enum Months {
     One(u8),
 }
 
-/// The months of what stands behind a year.
+/// The months of what follows a year.
 fn months_of(behind: &str) -> Option<Months> {
     if behind.is_empty() {
         return Some(Months::None);

@@ -86,7 +86,7 @@ impl<'e> Conversion<'e> {
 
     fn lose_eprint(&mut self, kind: &str) -> Result<(), AllocError> {
         if kind.is_empty() {
-            return self.lose("eprint", "no eprinttype tells its archive");
+            return self.lose("eprint", "no eprinttype names its archive");
         }
         let reason = format!(in self.alloc; "no known archive {kind}")?;
         self.lose("eprint", reason.as_str())

@@ -20,8 +20,8 @@ struct NameParts {
     suffix: String,
 }
 
-/// The names of a list. A particle stays with the family name where it is told so, and else it
-/// drops.
+/// The names of a list. A particle stays with the family name where its options say so, and else
+/// it drops.
 ///
 /// # Errors
 /// Where memory is refused.

@@ -36,7 +36,7 @@ pub(crate) struct Strings {
 /// What became of the text of a string.
 #[derive(Clone, Copy, PartialEq, Eq)]
 pub(crate) enum Added {
-    /// It stands behind the text before.
+    /// It follows the text before.
     Whole,
     /// There is no string of this name.
     Unknown,

@@ -109,7 +109,7 @@ struct File {
 }
 
 impl File {
-    /// Reads what stands behind an `@`, and gives what is left. An `@` that no name and no bracket
+    /// Reads what follows an `@`, and gives what is left. An `@` that no name and no bracket
     /// follows is part of a remark, as all is that stands between entries.
     fn command<'t>(&mut self, begin: Cursor<'t>, places: Places) -> Result<&'t str, AllocError> {
         let mut ahead = begin;

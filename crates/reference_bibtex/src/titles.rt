@@ -133,7 +133,7 @@ impl<'e> Conversion<'e> {
         self.item.put_text("container-title", title)
     }
 
-    /// Puts the short title that is told, or what stands before a colon or a subtitle.
+    /// Puts the short title of its own field, or what stands before a colon or a subtitle.
     fn put_short_title(&mut self) -> Result<(), AllocError> {
         let short = self.short_title()?;
         self.item.put_text("title-short", short)

@@ -55,8 +55,8 @@ impl ReferenceForm {
     }
 }
 
-/// The form of a file: the one that is told, or else that of its ending, or else that of its
-/// beginning.
+/// The form of a file: the one that the caller names, or else that of its ending, or else that of
+/// its beginning.
 pub fn form_of(told: Option<&str>, path: &str, bytes: &[u8]) -> ReferenceForm {
     told.and_then(ReferenceForm::of_name)
         .or(ReferenceForm::of_path(path))

@@ -58,7 +58,7 @@ impl Tagged {
         self.text.push_str(text)
     }
 
-    /// Appends a run, whose case no style may change where that is told.
+    /// Appends a run. No style may change its case where it is kept.
     fn push_run(&mut self, alloc: Global, run: &Run, is_kept: bool) -> Result<(), AllocError> {
         if !is_kept {
             return self.push(run.text.as_str(), &run.formats);

@@ -1,7 +1,7 @@
 //! What is left of a text that is read.
 
-/// How many bytes the end of a group or of a formula may stand behind its beginning, so that what
-/// has no end costs no more.
+/// How many bytes there may be between the beginning and the end of a group or of a formula, so
+/// that what has no end costs no more.
 const FARTHEST: usize = 20_000;
 
 /// How many groups and formulas without an end are looked for in a text.

@@ -4,7 +4,7 @@
 #[derive(Clone, Copy)]
 pub(crate) struct Member<'l> {
     pub name: &'l str,
-    /// What stands behind the colon. It is JSON where the line is.
+    /// What follows the colon. It is JSON where the line is.
     pub value: &'l str,
 }
 

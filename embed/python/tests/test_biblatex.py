@@ -557,7 +557,7 @@ def test_addresses_of_works(item, fields, url):
 
 def test_an_eprint_that_is_not_shown_is_told(item):
     assert item(eprint='1', eprinttype='foo')[1] == [('eprint', 'no known archive foo')]
-    assert item(eprint='1')[1] == [('eprint', 'no eprinttype tells its archive')]
+    assert item(eprint='1')[1] == [('eprint', 'no eprinttype names its archive')]
     assert item(eprint='1', eprinttype='arxiv',
                 url='http://a.b')[1] == [('eprint', 'the URL stands alone')]
 

@@ -374,7 +374,7 @@ class _Conversion:
             return ''
         if kind in tables.EPRINTS:
             return tables.EPRINTS[kind] + number
-        reason = f'no known archive {kind}' if kind else 'no eprinttype tells its archive'
+        reason = f'no known archive {kind}' if kind else 'no eprinttype names its archive'
         self.lose('eprint', reason)
         return ''
 
