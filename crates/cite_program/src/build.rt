@@ -246,6 +246,7 @@ fn names_in_use<'s>(names: &'s Names, around: Option<NamesInUse<'s>>) -> NamesIn
         formatting: names.formatting,
         display: names.display,
         is_substitute: around.is_some(),
+        offset: names.offset,
     };
     match around {
         Some(outer) if is_bare(names) => NamesInUse {

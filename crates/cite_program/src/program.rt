@@ -66,6 +66,8 @@ pub struct NamesInUse<'s> {
     pub display: Option<Display>,
     /// Whether it stands in for other names.
     pub is_substitute: bool,
+    /// Where the start tag of its element begins in the file.
+    pub offset: usize,
 }
 
 /// A program.

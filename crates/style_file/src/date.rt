@@ -89,4 +89,6 @@ pub struct Date {
     pub formatting: Formatting,
     pub display: Option<Display>,
     pub text_case: Option<TextCase>,
+    /// Where its start tag begins in the file, in bytes from the start of its text.
+    pub offset: usize,
 }

@@ -45,6 +45,8 @@ pub struct Text {
     pub text_case: Option<TextCase>,
     pub quotes: bool,
     pub strip_periods: bool,
+    /// Where its start tag begins in the file, in bytes from the start of its text.
+    pub offset: usize,
 }
 
 /// The value of a number's `form`.
@@ -65,6 +67,8 @@ pub struct Number {
     pub formatting: Formatting,
     pub display: Option<Display>,
     pub text_case: Option<TextCase>,
+    /// Where its start tag begins in the file, in bytes from the start of its text.
+    pub offset: usize,
 }
 
 /// An element `label`, which writes the term of a number variable.
@@ -72,6 +76,8 @@ pub struct Number {
 pub struct Label {
     pub variable: NumberVariable,
     pub options: LabelOptions,
+    /// Where its start tag begins in the file, in bytes from the start of its text.
+    pub offset: usize,
 }
 
 /// An element `group`.
@@ -84,6 +90,8 @@ pub struct Group {
     pub affixes: Affixes,
     pub formatting: Formatting,
     pub display: Option<Display>,
+    /// Where its start tag begins in the file, in bytes from the start of its text.
+    pub offset: usize,
 }
 
 /// An element that writes something.

@@ -145,4 +145,6 @@ pub struct Names {
     pub affixes: Affixes,
     pub formatting: Formatting,
     pub display: Option<Display>,
+    /// Where its start tag begins in the file, in bytes from the start of its text.
+    pub offset: usize,
 }

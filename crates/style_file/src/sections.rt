@@ -38,6 +38,8 @@ pub struct Layout {
     pub delimiter: String,
     pub affixes: Affixes,
     pub formatting: Formatting,
+    /// Where its start tag begins in the file, in bytes from the start of its text.
+    pub offset: usize,
 }
 
 /// The value of `collapse`.

@@ -44,6 +44,8 @@ pub struct GlobalOptions {
 pub struct Macro {
     pub name: String,
     pub elements: Vec<RenderingElement>,
+    /// Where its start tag begins in the file, in bytes from the start of its text.
+    pub offset: usize,
 }
 
 /// A style that stands for itself.

@@ -46,6 +46,7 @@ fn date_with(
         formatting,
         display,
         text_case,
+        offset: element.offset,
     }))
 }
 

@@ -142,6 +142,7 @@ fn group_with(
         affixes,
         formatting,
         display,
+        offset: element.offset,
     })
 }
 

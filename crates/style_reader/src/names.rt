@@ -50,6 +50,7 @@ pub(crate) fn names_with(
         affixes,
         formatting,
         display,
+        offset: element.offset,
     })
 }
 

@@ -236,5 +236,6 @@ fn layout_with(
         elements,
         affixes,
         formatting,
+        offset: layout.offset,
     })
 }

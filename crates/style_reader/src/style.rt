@@ -217,6 +217,7 @@ fn numbered_macro(element: &Element, reading: &mut Reading<'_>) -> Result<(usize
     let each = Macro {
         name: name.value.clone()?,
         elements,
+        offset: element.offset,
     };
     Ok((index.0, each))
 }

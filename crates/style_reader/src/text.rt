@@ -53,6 +53,7 @@ fn text_with(
         text_case,
         quotes,
         strip_periods,
+        offset: element.offset,
     })))
 }
 
@@ -140,6 +141,7 @@ fn number_with(
         formatting,
         display,
         text_case,
+        offset: element.offset,
     }))
 }
 
@@ -154,6 +156,7 @@ pub(crate) fn label_of(
         Some(variable) => Ok(RenderingElement::Label(Label {
             variable,
             options: label_options(reading.alloc, element)?,
+            offset: element.offset,
         })),
         None => Ok(RenderingElement::UnknownVariable),
     }

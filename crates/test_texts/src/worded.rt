@@ -216,6 +216,7 @@ fn date_element(alloc: Global, words: &str) -> Result<Option<date::Date>, AllocE
         formatting: PLAIN,
         display: None,
         text_case: None,
+        offset: 0,
     }))
 }
 
