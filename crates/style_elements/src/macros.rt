@@ -32,7 +32,7 @@ impl<'t> MacroTable<'t> {
         }
     }
 
-    /// The macros of a style in the order of the file, of which no size is known: for styles with
+    /// The macros of a style in the order of the file, whose sizes aren't known: for styles with
     /// which something is wrong.
     pub fn unordered(alloc: Global, style: &'t Element) -> Result<MacroTable<'t>, AllocError> {
         let mut names = MacroNames::new(alloc);
