@@ -1,4 +1,7 @@
 //! What an element changes in the texts of its content (CSL 1.0.2, text-case and strip-periods).
+ghost use Rattle.std.specs.Prelude.{◌≡◌, [], ◌∷◌, ◌++◌, IfOk, OnOk};
+ghost use Rattle.cite_pieces.specs.Nesting.{edges};
+
 use crate::piece::{Piece, Wrap};
 use crate::pieces::Pieces;
 use csl_references::rich_text::Baseline;
@@ -20,25 +23,46 @@ pub(crate) fn in_case(
     pieces: Pieces,
     case: TextCase,
     language: Language,
-) -> Result<Pieces, AllocError> {
+) -> Result<Pieces, AllocError>
+    ensures edges { IfOk result (λ out. edges out.pieces.items ≡ edges pieces.pieces.items) }
+{
     let spoken = spoken_text(alloc, &pieces)?;
     let recasing = Recasing::new(alloc, spoken.text.as_str(), &spoken.kept, case, language)?;
     let mut out = Pieces::new(alloc);
     let mut start = 0usize;
     for piece in pieces.into_vec() {
-        match piece {
-            Piece::Text(text) => {
-                out.push_text(recasing.apply(alloc, text.as_str(), start)?)?;
-                start = start.saturating_add(text.len());
-            }
-            Piece::Open(wrap) => {
-                start = start.saturating_add(mark_before(&wrap).len());
-                out.open(wrap)?;
-            }
-            Piece::Close => out.close()?,
-        }
+        let length = spoken_length(&piece);
+        push_in_case(alloc, &mut out, piece, &recasing, start)?;
+        start = start.saturating_add(length);
     }
     Ok(out)
+}
+
+/// Adds a piece in its case, which begins so far in the texts where words are looked for.
+fn push_in_case(
+    alloc: Global,
+    out: &mut Pieces,
+    piece: Piece,
+    recasing: &Recasing,
+    start: usize,
+) -> Result<(), AllocError>
+    ensures { OnOk result (edges out.new.pieces.items
+        ≡ edges out.old.pieces.items ++ edges (piece ∷ [])) }
+{
+    match piece {
+        Piece::Text(text) => out.push_text(recasing.apply(alloc, text.as_str(), start)?),
+        Piece::Open(wrap) => out.open(wrap),
+        Piece::Close => out.close(),
+    }
+}
+
+/// How long a piece is in the texts where words are looked for.
+fn spoken_length(piece: &Piece) -> usize {
+    match piece {
+        Piece::Text(text) => text.len(),
+        Piece::Open(wrap) => mark_before(wrap).len(),
+        Piece::Close => 0,
+    }
 }
 
 /// The stream without the periods of its texts.
@@ -46,16 +70,25 @@ pub(crate) fn in_case(
 /// # Errors
 ///
 /// Where memory is refused.
-pub(crate) fn without_periods(alloc: Global, pieces: Pieces) -> Result<Pieces, AllocError> {
+pub(crate) fn without_periods(alloc: Global, pieces: Pieces) -> Result<Pieces, AllocError>
+    ensures edges { IfOk result (λ out. edges out.pieces.items ≡ edges pieces.pieces.items) }
+{
     let mut out = Pieces::new(alloc);
     for piece in pieces.into_vec() {
-        match piece {
-            Piece::Text(text) => out.push_text(text.as_str().replace(alloc, ".", "")?)?,
-            Piece::Open(wrap) => out.open(wrap)?,
-            Piece::Close => out.close()?,
-        }
+        push_without_periods(alloc, &mut out, piece)?;
     }
     Ok(out)
+}
+
+fn push_without_periods(alloc: Global, out: &mut Pieces, piece: Piece) -> Result<(), AllocError>
+    ensures { OnOk result (edges out.new.pieces.items
+        ≡ edges out.old.pieces.items ++ edges (piece ∷ [])) }
+{
+    match piece {
+        Piece::Text(text) => out.push_text(text.as_str().replace(alloc, ".", "")?),
+        Piece::Open(wrap) => out.open(wrap),
+        Piece::Close => out.close(),
+    }
 }
 
 /// The texts of a stream as one, and which parts of it stay as they are.

@@ -1,4 +1,8 @@
 //! Quotes get their marks.
+ghost use Rattle.std.specs.Prelude.{◌≡◌, ◌-◌, [], ◌∷◌, ◌++◌, IfOk, OnOk, Some, length};
+ghost use Rattle.cite_pieces.specs.Marked.{IsMarked, wraps};
+ghost use Rattle.cite_pieces.specs.Nesting.{IsNested, depth, edges};
+
 use crate::piece::{Piece, QuoteSource, Wrap};
 use crate::pieces::Pieces;
 use csl_texts::quotes::QuoteMarks;
@@ -14,7 +18,9 @@ pub fn with_marks(
     alloc: Global,
     pieces: &Pieces,
     marks: QuoteMarks<'_>,
-) -> Result<Pieces, AllocError> {
+) -> Result<Pieces, AllocError>
+    ensures nested { IfOk result (λ out. IsNested out.pieces.items) }
+{
     marked(alloc, pieces, marks, Which::All)
 }
 
@@ -28,7 +34,10 @@ pub fn with_field_marks(
     alloc: Global,
     pieces: Pieces,
     marks: QuoteMarks<'_>,
-) -> Result<Pieces, AllocError> {
+) -> Result<Pieces, AllocError>
+    ensures nested { IsNested pieces.pieces.items →
+        IfOk result (λ out. IsNested out.pieces.items) }
+{
     if pieces.as_slice().iter().any(opens_field_quotes) {
         marked(alloc, &pieces, marks, Which::OfFields)
     } else {
@@ -53,7 +62,9 @@ fn marked(
     pieces: &Pieces,
     marks: QuoteMarks<'_>,
     which: Which,
-) -> Result<Pieces, AllocError> {
+) -> Result<Pieces, AllocError>
+    ensures nested { IfOk result (λ out. IsNested out.pieces.items) }
+{
     let mut marker = Marker {
         alloc,
         which,
@@ -62,11 +73,7 @@ fn marked(
         open: Vec::new(alloc),
     };
     for piece in pieces.as_slice() {
-        match piece {
-            Piece::Text(text) => marker.out.push_str(alloc, text.as_str())?,
-            Piece::Open(wrap) => marker.open(wrap)?,
-            Piece::Close => marker.close()?,
-        }
+        marker.read(piece)?;
     }
     for _ in 0..marker.open.len() {
         marker.close()?;
@@ -96,19 +103,40 @@ enum Opened {
 }
 
 impl Marker<'_> {
-    fn open(&mut self, wrap: &Wrap) -> Result<(), AllocError> {
-        let opened = match wrap {
-            Wrap::Quotes(source) if self.gives_marks(*source) => {
-                self.out.push_str(self.alloc, self.marks.open)?;
-                self.marks = self.marks.inside();
-                Opened::Marks
-            }
-            Wrap::Quotes(_) => Opened::Quotes,
-            _ => Opened::Other,
-        };
-        if opened != Opened::Marks {
-            self.out.open(wrap.clone()?)?;
+    fn read(&mut self, piece: &Piece) -> Result<(), AllocError>
+        ensures { IsMarked self.old → OnOk result (IsMarked self.new) }
+    {
+        match piece {
+            Piece::Text(text) => self.out.push_str(self.alloc, text.as_str()),
+            Piece::Open(wrap) => self.open(wrap),
+            Piece::Close => self.close(),
         }
+    }
+
+    fn open(&mut self, wrap: &Wrap) -> Result<(), AllocError>
+        ensures { IsMarked self.old → OnOk result (IsMarked self.new) }
+    {
+        match wrap {
+            Wrap::Quotes(source) if self.gives_marks(*source) => self.open_marks(),
+            Wrap::Quotes(_) => self.open_wrap(wrap, Opened::Quotes),
+            _ => self.open_wrap(wrap, Opened::Other),
+        }
+    }
+
+    fn open_marks(&mut self) -> Result<(), AllocError>
+        ensures { IsMarked self.old → OnOk result (IsMarked self.new) }
+    {
+        self.out.push_str(self.alloc, self.marks.open)?;
+        self.marks = self.marks.inside();
+        self.open.push(Opened::Marks)?;
+        Ok(())
+    }
+
+    fn open_wrap(&mut self, wrap: &Wrap, opened: Opened) -> Result<(), AllocError>
+        ensures { wraps (opened ∷ []) ≡ 1 →
+            IsMarked self.old → OnOk result (IsMarked self.new) }
+    {
+        self.out.open(wrap.clone()?)?;
         self.open.push(opened)?;
         Ok(())
     }
@@ -123,14 +151,31 @@ impl Marker<'_> {
         }
     }
 
-    fn close(&mut self) -> Result<(), AllocError> {
+    fn close(&mut self) -> Result<(), AllocError>
+        ensures marked { IsMarked self.old → OnOk result (IsMarked self.new) }
+        ensures open { OnOk result (length self.new.open.items
+            ≡ length self.old.open.items - 1) }
+    {
         match self.open.pop() {
-            Some(Opened::Marks) => {
+            Some(opened) => self.end(opened),
+            None => Ok(()),
+        }
+    }
+
+    /// Writes what the last wrap ends with, which was open.
+    #[tactic(auto, using(crate::proofs::Depths::wrap_closed))]
+    fn end(&mut self, opened: Opened) -> Result<(), AllocError>
+        ensures marked { depth 0 (edges self.old.out.pieces.items)
+            ≡ Some (wraps (self.old.open.items ++ opened ∷ []))
+            → OnOk result (IsMarked self.new) }
+        ensures open { self.new.open ≡ self.old.open }
+    {
+        match opened {
+            Opened::Marks => {
                 self.marks = self.marks.inside();
                 self.out.push_str(self.alloc, self.marks.close)
             }
-            Some(Opened::Quotes | Opened::Other) => self.out.close(),
-            None => Ok(()),
+            Opened::Quotes | Opened::Other => self.out.close(),
         }
     }
 }

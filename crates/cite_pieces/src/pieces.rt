@@ -1,5 +1,6 @@
 //! Streams of pieces.
-ghost use Rattle.std.specs.Prelude.{◌≡◌};
+ghost use Rattle.std.specs.Prelude.{◌≡◌, false, true, [], ◌∷◌, ◌++◌, IfOk, OnOk};
+ghost use Rattle.cite_pieces.specs.Nesting.{IsNested, depth, edges};
 
 use crate::piece::{Mark, Piece, Wrap};
 use csl_texts::addresses::{last_address, without_beginning};
@@ -13,7 +14,9 @@ pub struct Pieces {
 
 impl Pieces {
     /// No pieces.
-    pub fn new(alloc: Global) -> Pieces {
+    pub fn new(alloc: Global) -> Pieces
+        ensures { result.pieces.items ≡ [] }
+    {
         Pieces {
             pieces: Vec::new(alloc),
         }
@@ -24,7 +27,9 @@ impl Pieces {
     /// # Errors
     ///
     /// Where memory is refused.
-    pub fn of_str(alloc: Global, text: &str) -> Result<Pieces, AllocError> {
+    pub fn of_str(alloc: Global, text: &str) -> Result<Pieces, AllocError>
+        ensures { IfOk result (λ pieces. IsNested pieces.pieces.items) }
+    {
         let mut pieces = Pieces::new(alloc);
         pieces.push_str(alloc, text)?;
         Ok(pieces)
@@ -74,7 +79,9 @@ impl Pieces {
     /// # Errors
     ///
     /// Where memory is refused; the stream stays as it is.
-    pub fn push_text(&mut self, text: String) -> Result<(), AllocError> {
+    pub fn push_text(&mut self, text: String) -> Result<(), AllocError>
+        ensures edges { edges self.new.pieces.items ≡ edges self.old.pieces.items }
+    {
         if text.is_empty() {
             return Ok(());
         }
@@ -87,7 +94,9 @@ impl Pieces {
     /// # Errors
     ///
     /// Where memory is refused; the stream stays as it is.
-    pub fn push_str(&mut self, alloc: Global, text: &str) -> Result<(), AllocError> {
+    pub fn push_str(&mut self, alloc: Global, text: &str) -> Result<(), AllocError>
+        ensures edges { edges self.new.pieces.items ≡ edges self.old.pieces.items }
+    {
         if text.is_empty() {
             return Ok(());
         }
@@ -145,7 +154,10 @@ impl Pieces {
     /// # Errors
     ///
     /// Where memory is refused; the stream stays as it is.
-    pub fn push_pieces(&mut self, other: Pieces) -> Result<(), AllocError> {
+    pub fn push_pieces(&mut self, other: Pieces) -> Result<(), AllocError>
+        ensures edges { OnOk result (edges self.new.pieces.items
+            ≡ edges self.old.pieces.items ++ edges other.pieces.items) }
+    {
         let mut pieces = other.pieces;
         if self.pieces.is_empty() {
             self.pieces = pieces;
@@ -159,7 +171,11 @@ impl Pieces {
     /// # Errors
     ///
     /// Where memory is refused; some of what was to be added is in the stream then.
-    pub fn push_wrapped(&mut self, wrap: Wrap, inside: Pieces) -> Result<(), AllocError> {
+    #[tactic(auto, using(crate::proofs::Edges::wrapped))]
+    pub fn push_wrapped(&mut self, wrap: Wrap, inside: Pieces) -> Result<(), AllocError>
+        ensures edges { OnOk result (edges self.new.pieces.items
+            ≡ edges self.old.pieces.items ++ (true ∷ edges inside.pieces.items ++ false ∷ [])) }
+    {
         self.open(wrap)?;
         self.push_pieces(inside)?;
         self.close()
@@ -225,12 +241,18 @@ impl Pieces {
         None
     }
 
-    pub(crate) fn open(&mut self, wrap: Wrap) -> Result<(), AllocError> {
+    pub(crate) fn open(&mut self, wrap: Wrap) -> Result<(), AllocError>
+        ensures { OnOk result (edges self.new.pieces.items
+            ≡ edges self.old.pieces.items ++ true ∷ []) }
+    {
         self.pieces.push(Piece::Open(wrap))?;
         Ok(())
     }
 
-    pub(crate) fn close(&mut self) -> Result<(), AllocError> {
+    pub(crate) fn close(&mut self) -> Result<(), AllocError>
+        ensures { OnOk result (edges self.new.pieces.items
+            ≡ edges self.old.pieces.items ++ false ∷ []) }
+    {
         self.pieces.push(Piece::Close)?;
         Ok(())
     }

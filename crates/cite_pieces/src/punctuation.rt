@@ -1,4 +1,8 @@
 //! Punctuation where texts meet: affixes, delimiters and what they stand around.
+ghost use Rattle.std.specs.Prelude.{◌≡◌, false, true, [], ◌∷◌, ◌++◌, IfOk, OnOk};
+ghost use Rattle.cite_pieces.specs.Joints.{read_edges, waiting_edge};
+ghost use Rattle.cite_pieces.specs.Nesting.{edges};
+
 use crate::piece::{Mark, Piece, Wrap};
 use crate::pieces::Pieces;
 use std::alloc::{AllocError, Global};
@@ -14,8 +18,10 @@ use std::mem::replace;
 /// # Errors
 ///
 /// Where memory is refused.
-pub fn punctuated(alloc: Global, pieces: Pieces, in_quotes: bool) -> Result<Pieces, AllocError> {
-    Joints::new(alloc, in_quotes, false).joined_up(pieces)
+pub fn punctuated(alloc: Global, pieces: Pieces, in_quotes: bool) -> Result<Pieces, AllocError>
+    ensures edges { IfOk result (λ out. edges out.pieces.items ≡ edges pieces.pieces.items) }
+{
+    joined_up(alloc, pieces, in_quotes, false)
 }
 
 /// The stream with its punctuation in order, but for that between names and what is around them:
@@ -28,8 +34,27 @@ pub fn punctuated_but_names(
     alloc: Global,
     pieces: Pieces,
     in_quotes: bool,
-) -> Result<Pieces, AllocError> {
-    Joints::new(alloc, in_quotes, true).joined_up(pieces)
+) -> Result<Pieces, AllocError>
+    ensures edges { IfOk result (λ out. edges out.pieces.items ≡ edges pieces.pieces.items) }
+{
+    joined_up(alloc, pieces, in_quotes, true)
+}
+
+/// The stream in order. Names join nothing if `keeps_names`.
+fn joined_up(
+    alloc: Global,
+    pieces: Pieces,
+    in_quotes: bool,
+    keeps_names: bool,
+) -> Result<Pieces, AllocError>
+    ensures edges { IfOk result (λ out. edges out.pieces.items ≡ edges pieces.pieces.items) }
+{
+    let mut joints = Joints::new(alloc, in_quotes, keeps_names);
+    for piece in pieces.into_vec() {
+        joints.read(piece)?;
+    }
+    joints.write_last()?;
+    Ok(joints.out)
 }
 
 /// A stream that is being put in order.
@@ -70,7 +95,9 @@ enum Edge {
 
 impl Joints {
     /// Nothing that is in order.
-    fn new(alloc: Global, in_quotes: bool, keeps_names: bool) -> Joints {
+    fn new(alloc: Global, in_quotes: bool, keeps_names: bool) -> Joints
+        ensures { read_edges result ≡ [] }
+    {
         Joints {
             alloc,
             in_quotes,
@@ -83,28 +110,26 @@ impl Joints {
         }
     }
 
-    /// A stream in order.
-    fn joined_up(self, pieces: Pieces) -> Result<Pieces, AllocError> {
-        let mut joints = self;
-        for piece in pieces.into_vec() {
-            match piece {
-                Piece::Text(text) => joints.push_text(text)?,
-                Piece::Open(wrap) => joints.open(wrap)?,
-                Piece::Close => joints.close()?,
-            }
+    fn read(&mut self, piece: Piece) -> Result<(), AllocError>
+        ensures { OnOk result (read_edges self.new ≡ read_edges self.old ++ edges (piece ∷ [])) }
+    {
+        match piece {
+            Piece::Text(text) => self.push_text(text),
+            Piece::Open(wrap) => self.open(wrap),
+            Piece::Close => self.close(),
         }
-        joints.write_last()?;
-        Ok(joints.out)
     }
 
-    fn open(&mut self, wrap: Wrap) -> Result<(), AllocError> {
+    fn open(&mut self, wrap: Wrap) -> Result<(), AllocError>
+        ensures { OnOk result (read_edges self.new ≡ read_edges self.old ++ true ∷ []) }
+    {
         let kind = self.kind_of(&wrap);
         self.open.push(kind)?;
-        self.behind.push(Edge::Open(wrap))?;
-        if kind != WrapKind::Other {
-            self.end_joint()?;
+        self.wait(Edge::Open(wrap))?;
+        if kind == WrapKind::Other {
+            return Ok(());
         }
-        Ok(())
+        self.end_joint()
     }
 
     fn kind_of(&self, wrap: &Wrap) -> WrapKind {
@@ -115,38 +140,44 @@ impl Joints {
         }
     }
 
-    fn close(&mut self) -> Result<(), AllocError> {
+    #[tactic(auto, using(crate::proofs::Joined::wait_ended))]
+    fn close(&mut self) -> Result<(), AllocError>
+        ensures { OnOk result (read_edges self.new ≡ read_edges self.old ++ false ∷ []) }
+    {
         match self.open.pop() {
-            Some(WrapKind::Quotes) => {
-                self.behind.push(Edge::CloseQuotes)?;
-                Ok(())
-            }
+            Some(WrapKind::Quotes) => self.wait(Edge::CloseQuotes),
             Some(WrapKind::Names) => {
-                self.behind.push(Edge::Close)?;
+                self.wait(Edge::Close)?;
                 self.end_joint()
             }
-            Some(WrapKind::Other) | None => {
-                self.behind.push(Edge::Close)?;
-                Ok(())
-            }
+            Some(WrapKind::Other) | None => self.wait(Edge::Close),
         }
     }
 
+    /// Something opens or closes behind the last text.
+    fn wait(&mut self, edge: Edge) -> Result<(), AllocError>
+        ensures { OnOk result (read_edges self.new
+            ≡ read_edges self.old ++ waiting_edge edge ∷ []) }
+    {
+        self.behind.push(edge)?;
+        Ok(())
+    }
+
     /// What comes next meets nothing.
-    fn end_joint(&mut self) -> Result<(), AllocError> {
+    fn end_joint(&mut self) -> Result<(), AllocError>
+        ensures { OnOk result (read_edges self.new ≡ read_edges self.old) }
+    {
         self.write_last()?;
         self.before = None;
         Ok(())
     }
 
-    fn push_text(&mut self, text: String) -> Result<(), AllocError> {
-        let is_behind_quote = self.is_behind_quote();
-        let rest = self.joined(text.as_str(), is_behind_quote)?;
-        let rest = if is_behind_quote && self.in_quotes && !self.is_in_markup() {
-            self.moved_into_quotes(rest)?
-        } else {
-            rest
-        };
+    fn push_text(&mut self, text: String) -> Result<(), AllocError>
+        ensures { OnOk result (read_edges self.new ≡ read_edges self.old) }
+    {
+        let quotes_end = self.quotes_end();
+        let whole = self.joined(text.as_str(), quotes_end.is_some())?;
+        let rest = self.moved_into_quotes(whole, quotes_end)?;
         if rest.is_empty() {
             return Ok(());
         }
@@ -161,14 +192,14 @@ impl Joints {
         Ok(())
     }
 
-    /// Whether a quote ends behind the last text.
-    fn is_behind_quote(&self) -> bool {
-        for edge in &self.behind {
+    /// Where the first quote ends behind the last text.
+    fn quotes_end(&self) -> Option<usize> {
+        for (place, edge) in self.behind.iter().enumerate() {
             if matches!(edge, Edge::CloseQuotes) {
-                return true;
+                return Some(place);
             }
         }
-        false
+        None
     }
 
     /// Whether markup begins behind the last text: what is in it stays behind the quote of its
@@ -182,14 +213,24 @@ impl Joints {
         false
     }
 
-    /// What is left of a text when its period or comma has moved into the quotes before it, where
-    /// it vanishes behind a mark that ends a sentence.
-    fn moved_into_quotes<'t>(&mut self, text: &'t str) -> Result<&'t str, AllocError> {
+    /// What is left of a text when its period or comma has moved into the quotes before it, which
+    /// end at this place. It vanishes behind a mark that ends a sentence.
+    fn moved_into_quotes<'t>(
+        &mut self,
+        text: &'t str,
+        quotes_end: Option<usize>,
+    ) -> Result<&'t str, AllocError>
+        ensures { OnOk result (read_edges self.new ≡ read_edges self.old) }
+    {
+        let Some(place) = quotes_end else {
+            return Ok(text);
+        };
+        if !self.in_quotes || self.is_in_markup() {
+            return Ok(text);
+        }
         match text.chars().next() {
             Some(mark) if mark == '.' || mark == ',' => {
-                if !self.last.as_str().ends_with(|c| matches!(c, '!' | '?')) {
-                    self.move_into_quotes(mark)?;
-                }
+                self.move_into_quotes(mark, place)?;
                 Ok(text.strip_prefix(mark).unwrap_or(""))
             }
             _ => Ok(text),
@@ -197,7 +238,9 @@ impl Joints {
     }
 
     /// What is left of a text when it is joined to the last one, which may lose its end.
-    fn joined<'t>(&mut self, text: &'t str, is_behind_quote: bool) -> Result<&'t str, AllocError> {
+    fn joined<'t>(&mut self, text: &'t str, is_behind_quote: bool) -> Result<&'t str, AllocError>
+        ensures { read_edges self.new ≡ read_edges self.old }
+    {
         let Some(first) = text.chars().next() else {
             return Ok("");
         };
@@ -219,7 +262,9 @@ impl Joints {
         Ok(text)
     }
 
-    fn trim_last(&mut self, c: char) -> Result<(), AllocError> {
+    fn trim_last(&mut self, c: char) -> Result<(), AllocError>
+        ensures { read_edges self.new ≡ read_edges self.old }
+    {
         let kept = self.last.as_str().trim_end_matches(c);
         if kept.len() < self.last.len() {
             self.last = String::from_str(self.alloc, kept)?;
@@ -227,39 +272,50 @@ impl Joints {
         Ok(())
     }
 
-    /// Puts a mark before the first closing quotation mark behind the last text.
-    fn move_into_quotes(&mut self, mark: char) -> Result<(), AllocError> {
-        let edges = replace(&mut self.behind, Vec::new(self.alloc));
-        self.write_last()?;
-        let mut is_moved = false;
-        for edge in edges {
-            if !is_moved && matches!(&edge, Edge::CloseQuotes) {
-                self.last.push(mark)?;
-                is_moved = true;
-            }
-            if is_moved {
-                self.behind.push(edge)?;
-            } else {
-                self.write_edge(edge)?;
-            }
+    /// Puts a mark before the closing quotation mark at this place behind the last text, unless
+    /// that ends a sentence.
+    fn move_into_quotes(&mut self, mark: char, place: usize) -> Result<(), AllocError>
+        ensures { OnOk result (read_edges self.new ≡ read_edges self.old) }
+    {
+        if place > self.behind.len() || self.last.as_str().ends_with(|c| matches!(c, '!' | '?')) {
+            return Ok(());
         }
+        let behind = self.behind.split_off(place)?;
+        self.write_last()?;
+        self.last.push(mark)?;
+        self.behind = behind;
         Ok(())
     }
 
     /// Writes the last text and what is behind it.
-    fn write_last(&mut self) -> Result<(), AllocError> {
-        let last = replace(&mut self.last, String::new(self.alloc));
-        if let Some(c) = last.as_str().chars().next_back() {
-            self.before = Some(c);
-            self.out.push_text(last)?;
-        }
+    fn write_last(&mut self) -> Result<(), AllocError>
+        ensures edges { OnOk result (edges self.new.out.pieces.items ≡ read_edges self.old) }
+        ensures behind { OnOk result (self.new.behind.items ≡ []) }
+    {
+        self.write_text()?;
         for edge in replace(&mut self.behind, Vec::new(self.alloc)) {
             self.write_edge(edge)?;
         }
         Ok(())
     }
 
-    fn write_edge(&mut self, edge: Edge) -> Result<(), AllocError> {
+    fn write_text(&mut self) -> Result<(), AllocError>
+        ensures edges { edges self.new.out.pieces.items ≡ edges self.old.out.pieces.items }
+        ensures behind { self.new.behind ≡ self.old.behind }
+    {
+        let last = replace(&mut self.last, String::new(self.alloc));
+        let Some(c) = last.as_str().chars().next_back() else {
+            return Ok(());
+        };
+        self.before = Some(c);
+        self.out.push_text(last)
+    }
+
+    fn write_edge(&mut self, edge: Edge) -> Result<(), AllocError>
+        ensures edges { OnOk result (edges self.new.out.pieces.items
+            ≡ edges self.old.out.pieces.items ++ waiting_edge edge ∷ []) }
+        ensures behind { self.new.behind ≡ self.old.behind }
+    {
         match edge {
             Edge::Open(wrap) => self.out.open(wrap),
             Edge::Close | Edge::CloseQuotes => self.out.close(),

@@ -1,0 +1,3 @@
+pub mod Joints
+pub mod Marked
+pub mod Nesting
