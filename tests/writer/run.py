@@ -29,6 +29,7 @@ HERE = os.path.dirname(os.path.abspath(__file__))
 ROOT = os.path.dirname(os.path.dirname(HERE))
 sys.path.append(os.path.dirname(HERE))
 
+import explained
 import forms
 import pandoc
 import runs
@@ -108,7 +109,8 @@ def try_fault(program, fault):
 
 def try_help(program):
     """Help and version are on standard output, and help has an example."""
-    for words in (['--help'], ['help'], ['cite', '-h'], ['bibliography', '--help'], ['render', '-h'], ['styles', '-h']):
+    for words in (['--help'], ['help'], ['cite', '-h'], ['bibliography', '--help'], ['render', '-h'], ['styles', '-h'],
+                  ['explain', '-h']):
         status, out, error = ended(program, *words)
         if status or error or '\nUsage: gamhilon' not in out or '\nExample: ' not in out:
             raise Failed('%s: status %d, %r, %r' % (' '.join(words), status, out[:80], error))
@@ -368,6 +370,7 @@ def tests_of(options):
         tests.append(('%s in %s, which is built in' % (name, built_in), try_document, document, built_in,
                       recorded[name][built_in + '.csl']))
     tests += forms.tests()
+    tests += explained.tests(ended)
     tests += [('names of styles', try_names), ('style sheet', try_sheet)]
     tests += [('built in: ' + name_of(path), try_built_in, path) for path in pandoc.STYLES]
     tests += [('rendered: ' + os.path.relpath(base, ROOT), try_rendered, base) for base in bases_of('examples', 'tests/documents/rows')]
