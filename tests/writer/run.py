@@ -8,11 +8,12 @@ whose citations and bibliographies of documents/ read as pandoc 2.17 writes them
 --record writes that file anew, by the pandoc that is installed); documents of examples and
 tests/documents, which `gamhilon render` answers as cite_run does; N triples of files (300, if not
 said), of which one is changed by changes drawn by the seed (mutations.py): each is answered, or
-refused with a line, and takes at most two seconds and 500 MB; Markdown and LaTeX, beside those of the Python package and what pandoc reads of
-them where it is installed (forms.py); and runs in three styles, of items in Markdown and LaTeX, and
-of `render`, of which each growth of memory is refused in turn (tests/documents/refuse.c, for which
-a C compiler must be there, and a program that brings no memory of its own, as that of `rt try`
-does). The last line is 'N passed, M failed', and the exit status is 1 where a test failed."""
+refused with a line, and takes at most two seconds and 500 MB; Markdown and LaTeX, beside those of
+the Python package and what pandoc reads of them where it is installed (forms.py); which element of
+a style wrote each text (explained.py); and runs in three styles, of items in Markdown and LaTeX, of
+`explain` and of `render`, of which each growth of memory is refused in turn
+(tests/documents/refuse.c, for which a C compiler must be there, and a program that brings no memory
+of its own, as that of `rt try` does). The last line is 'N passed, M failed', and the exit status is 1 where a test failed."""
 import argparse
 import glob
 import json
@@ -381,6 +382,9 @@ def tests_of(options):
     for form in forms.FORMS:
         tests.append(('growths of memory: items in ' + form, refused_in_turn,
                       ['bibliography', '--to', form, '--style', pandoc.STYLES[0], 'r.json', 'c.json']))
+    for form in ('json', 'html'):
+        tests.append(('growths of memory: explain as ' + form, refused_in_turn,
+                      ['explain', '--to', form, pandoc.STYLES[0], 'r.json', 'c.json']))
     tests.append(('growths of memory: render', refused_in_turn, ['render', ROOT + '/examples/author_date.json']))
     tests.append(('the standard input in packets', try_packets))
     tests += [('growth: ' + name, try_growth, cites_with_notes(note)) for name, note in NOTES.items()]
