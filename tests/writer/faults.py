@@ -183,7 +183,7 @@ TWO = {'s.csl': style_of('<text variable="title"/>'), 'c.json': '[[{"id": "b"}]]
 
 FAULTS = [
     # Command lines
-    usage('no word', "'gamhilon' requires a subcommand but one was not provided [subcommands: cite, bibliography, session, render, check, entries, styles, css, help]"),
+    usage('no word', "'gamhilon' requires a subcommand but one was not provided [subcommands: cite, bibliography, explain, session, render, check, entries, styles, css, help]"),
     usage('an unknown command', "unrecognized subcommand 'print'", 'print'),
     usage('a command that is nearly one', "unrecognized subcommand 'cited'; tip: a similar subcommand exists: 'cite'", 'cited'),
     usage('no style', 'the following required arguments were not provided: --style <STYLE>', 'cite', 'FILE/r.json', 'FILE/c.json'),

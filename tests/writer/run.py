@@ -8,11 +8,12 @@ whose citations and bibliographies of documents/ read as pandoc 2.17 writes them
 --record writes that file anew, by the pandoc that is installed); documents of examples and
 tests/documents, which `gamhilon render` answers as cite_run does; N triples of files (300, if not
 said), of which one is changed by changes drawn by the seed (mutations.py): each is answered, or
-refused with a line, and takes at most two seconds and 500 MB; Markdown and LaTeX, beside those of the Python package and what pandoc reads of
-them where it is installed (forms.py); and runs in three styles, of items in Markdown and LaTeX, and
-of `render`, of which each growth of memory is refused in turn (tests/documents/refuse.c, for which
-a C compiler must be there, and a program that brings no memory of its own, as that of `rt try`
-does). The last line is 'N passed, M failed', and the exit status is 1 where a test failed."""
+refused with a line, and takes at most two seconds and 500 MB; Markdown and LaTeX, beside those of
+the Python package and what pandoc reads of them where it is installed (forms.py); which element of
+a style wrote each text (explained.py); and runs in three styles, of items in Markdown and LaTeX, of
+`explain` and of `render`, of which each growth of memory is refused in turn
+(tests/documents/refuse.c, for which a C compiler must be there, and a program that brings no memory
+of its own, as that of `rt try` does). The last line is 'N passed, M failed', and the exit status is 1 where a test failed."""
 import argparse
 import glob
 import json
@@ -29,6 +30,7 @@ HERE = os.path.dirname(os.path.abspath(__file__))
 ROOT = os.path.dirname(os.path.dirname(HERE))
 sys.path.append(os.path.dirname(HERE))
 
+import explained
 import forms
 import pandoc
 import runs
@@ -108,7 +110,8 @@ def try_fault(program, fault):
 
 def try_help(program):
     """Help and version are on standard output, and help has an example."""
-    for words in (['--help'], ['help'], ['cite', '-h'], ['bibliography', '--help'], ['render', '-h'], ['styles', '-h']):
+    for words in (['--help'], ['help'], ['cite', '-h'], ['bibliography', '--help'], ['render', '-h'], ['styles', '-h'],
+                  ['explain', '-h']):
         status, out, error = ended(program, *words)
         if status or error or '\nUsage: gamhilon' not in out or '\nExample: ' not in out:
             raise Failed('%s: status %d, %r, %r' % (' '.join(words), status, out[:80], error))
@@ -368,6 +371,7 @@ def tests_of(options):
         tests.append(('%s in %s, which is built in' % (name, built_in), try_document, document, built_in,
                       recorded[name][built_in + '.csl']))
     tests += forms.tests()
+    tests += explained.tests(ended)
     tests += [('names of styles', try_names), ('style sheet', try_sheet)]
     tests += [('built in: ' + name_of(path), try_built_in, path) for path in pandoc.STYLES]
     tests += [('rendered: ' + os.path.relpath(base, ROOT), try_rendered, base) for base in bases_of('examples', 'tests/documents/rows')]
@@ -378,6 +382,9 @@ def tests_of(options):
     for form in forms.FORMS:
         tests.append(('growths of memory: items in ' + form, refused_in_turn,
                       ['bibliography', '--to', form, '--style', pandoc.STYLES[0], 'r.json', 'c.json']))
+    for form in ('json', 'html'):
+        tests.append(('growths of memory: explain as ' + form, refused_in_turn,
+                      ['explain', '--to', form, pandoc.STYLES[0], 'r.json', 'c.json']))
     tests.append(('growths of memory: render', refused_in_turn, ['render', ROOT + '/examples/author_date.json']))
     tests.append(('the standard input in packets', try_packets))
     tests += [('growth: ' + name, try_growth, cites_with_notes(note)) for name, note in NOTES.items()]

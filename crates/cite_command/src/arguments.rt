@@ -11,6 +11,8 @@ pub enum Command {
     Cite(Options),
     /// A bibliography is printed.
     Bibliography(Options),
+    /// It is printed which element of a style wrote each text.
+    Explain(Options),
     /// References are printed as CSL-JSON.
     Entries(EntriesOptions),
     /// A document of `cite_run` is answered.

@@ -1,7 +1,7 @@
 //! The command line, as a value of the crate `clap`.
 use crate::usage::{
-    ABOUT, DOCUMENT_NOTES, ENTRIES_NOTES, PROGRAM_NOTES, SESSION_NOTES, STYLES_NOTES, VERSION,
-    WRITING_NOTES,
+    ABOUT, DOCUMENT_NOTES, ENTRIES_NOTES, EXPLAIN_NOTES, PROGRAM_NOTES, SESSION_NOTES,
+    STYLES_NOTES, VERSION, WRITING_NOTES,
 };
 use clap::builder::ValueParser;
 use clap::{Arg, ArgAction, Command};
@@ -31,6 +31,7 @@ fn named<'a>(alloc: Global) -> Result<Command<'a>, AllocError> {
 enum Verb {
     Cite,
     Bibliography,
+    Explain,
     Session,
     Render,
     Check,
@@ -43,6 +44,7 @@ enum Verb {
 const VERBS: &[Verb] = &[
     Verb::Cite,
     Verb::Bibliography,
+    Verb::Explain,
     Verb::Session,
     Verb::Render,
     Verb::Check,
@@ -63,6 +65,7 @@ fn command<'a>(alloc: Global, verb: Verb) -> Result<Command<'a>, AllocError> {
     match verb {
         Verb::Cite => cite(alloc),
         Verb::Bibliography => bibliography(alloc),
+        Verb::Explain => explain(alloc),
         Verb::Session => session(alloc),
         Verb::Render => render(alloc),
         Verb::Check => check(alloc),
@@ -99,15 +102,43 @@ fn writing<'a>(
     Command::new(alloc, name)
         .about(about)
         .after_help(WRITING_NOTES)
-        .args(Vec::from_array(alloc, style_words(alloc))?)?
+        .arg(style(alloc))?
+        .args(Vec::from_array(alloc, place_words(alloc))?)?
         .args(Vec::from_array(alloc, form_words(alloc))?)?
-        .args(Vec::from_array(alloc, file_words(alloc, citations))?)
+        .args(Vec::from_array(alloc, limit_words(alloc))?)?
+        .args(Vec::from_array(alloc, file_words(alloc))?)?
+        .arg(citations)
 }
 
-/// The style of a command that writes, and where its files are.
-fn style_words<'a>(alloc: Global) -> [Arg<'a>; 5] {
+fn explain<'a>(alloc: Global) -> Result<Command<'a>, AllocError> {
+    let formats: &'a [&'a str] = &["json", "html"];
+    let about = "Says which element of a style wrote each text, as JSON or as a page";
+    let references = references(alloc).required(false);
+    Command::new(alloc, "explain")
+        .about(about)
+        .after_help(EXPLAIN_NOTES)
+        .args(Vec::from_array(alloc, place_words(alloc))?)?
+        .arg(explained_form(alloc, formats))?
+        .args(Vec::from_array(alloc, limit_words(alloc))?)?
+        .arg(from(alloc))?
+        .arg(more(alloc))?
+        .arg(explained_style(alloc))?
+        .arg(references)?
+        .arg(citations(alloc))
+}
+
+fn explained_form<'a>(alloc: Global, formats: &'a [&'a str]) -> Arg<'a> {
+    let help = "The form of what is written (json)";
+    valued(alloc, "to", "FORMAT", help).value_parser(ValueParser::Names(formats))
+}
+
+fn explained_style<'a>(alloc: Global) -> Arg<'a> {
+    Arg::new(alloc, "STYLE").required(true).help(STYLE_HELP)
+}
+
+/// The language of a command that writes, and where the files beside its style are.
+fn place_words<'a>(alloc: Global) -> [Arg<'a>; 4] {
     [
-        style(alloc),
         valued(
             alloc,
             "locale",
@@ -144,8 +175,13 @@ fn form_words<'a>(alloc: Global) -> [Arg<'a>; 4] {
     ]
 }
 
-/// What the style may take, and the files of references and citations.
-fn file_words<'a>(alloc: Global, citations: Arg<'a>) -> [Arg<'a>; 6] {
+/// The files of references.
+fn file_words<'a>(alloc: Global) -> [Arg<'a>; 3] {
+    [from(alloc), more(alloc), references(alloc)]
+}
+
+/// What the style may take.
+fn limit_words<'a>(alloc: Global) -> [Arg<'a>; 2] {
     [
         limit(
             alloc,
@@ -157,16 +193,14 @@ fn file_words<'a>(alloc: Global, citations: Arg<'a>) -> [Arg<'a>; 6] {
             "most-bytes",
             "How many bytes the style may write for each cite and each item (100000)",
         ),
-        from(alloc),
-        more(alloc),
-        references(alloc),
-        citations,
     ]
 }
 
+const STYLE_HELP: &str =
+    "The style: a file, a name of `gamhilon styles`, or one in the folder of styles";
+
 fn style<'a>(alloc: Global) -> Arg<'a> {
-    let help = "The style: a file, a name of `gamhilon styles`, or one in the folder of styles";
-    valued(alloc, "style", "STYLE", help).required(true)
+    valued(alloc, "style", "STYLE", STYLE_HELP).required(true)
 }
 
 fn more<'a>(alloc: Global) -> Arg<'a> {

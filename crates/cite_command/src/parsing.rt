@@ -76,6 +76,7 @@ fn command_in(alloc: Global, matches: &ArgMatches<'_>) -> Result<Command, Comman
         "css" => Ok(Command::StyleSheet),
         "session" => Ok(Command::Session),
         "cite" => Ok(Command::Cite(cite_options(alloc, words)?)),
+        "explain" => Ok(Command::Explain(explain_options(alloc, words)?)),
         _ => Ok(Command::Bibliography(options_in(alloc, words)?)),
     }
 }
@@ -112,6 +113,31 @@ fn cite_options(alloc: Global, words: &ArgMatches<'_>) -> Result<Options, Comman
     options.has_bibliography = words.get_flag("with-bibliography");
     options.links_citations = words.get_flag("link-citations");
     Ok(options)
+}
+
+/// The options of the command that explains.
+fn explain_options(alloc: Global, words: &ArgMatches<'_>) -> Result<Options, CommandLineError> {
+    checked(Options {
+        style: text_at(alloc, words, "STYLE")?.unwrap_or(String::new(alloc)),
+        locale: text_at(alloc, words, "locale")?,
+        styles: text_at(alloc, words, "styles")?,
+        locales: text_at(alloc, words, "locales")?,
+        format: match words.get_str("to") {
+            Some("html") => OutputFormat::Html,
+            _ => OutputFormat::Json,
+        },
+        is_standalone: false,
+        has_bibliography: true,
+        links_citations: false,
+        lists_uncited: false,
+        is_draft: false,
+        abbreviations: text_at(alloc, words, "abbreviations")?,
+        most_steps: words.get_one::<usize>("most-steps"),
+        most_bytes: words.get_one::<usize>("most-bytes"),
+        references: references_in(alloc, words)?,
+        from: text_at(alloc, words, "from")?,
+        citations: text_at(alloc, words, "CITATIONS")?,
+    })
 }
 
 /// The options of a command that writes.

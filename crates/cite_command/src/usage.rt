@@ -33,6 +33,19 @@ Example: with the references of books.json, in Debian's style apa,
   gamhilon cite --style apa books.json cites.json
   gamhilon bibliography --style apa books.json cites.json";
 
+/// What the help of the command that explains ends with.
+pub(crate) const EXPLAIN_NOTES: &str = "\
+Each text of a citation and of an item stands beside the element that wrote it: its name, its line
+and column in the file, and the macros around it. As a page, what is under the pointer shows its
+element, and an element shows its texts.
+
+Without CITATIONS each reference is cited alone, in their order. Without REFERENCES a few works are
+cited that are built in. The name - stands for the standard input.
+
+Example: what mine.csl writes of them, as a page,
+
+  gamhilon explain mine.csl --to html > mine.html";
+
 /// What the help of the command that answers documents ends with.
 pub(crate) const DOCUMENT_NOTES: &str = "\
 The children of a macro count at each of its calls, both for --depth and for --elements. The name -

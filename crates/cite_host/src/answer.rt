@@ -18,6 +18,7 @@ use cite_pieces::pieces::Pieces;
 use cite_pieces::punctuation::punctuated;
 use cite_trees::streams::{cites_of, stream_of, stream_of_child};
 use cite_walk::abbreviations::Abbreviations;
+use cite_walk::cite::Explaining;
 use csl_base::entry::PlainEntry;
 use csl_base::style::IndependentStyle;
 use csl_driver::error::FinishError;
@@ -84,6 +85,27 @@ impl<'d> Document<'d> {
     ///
     /// Those of `answer`; then `kept` may have lost what it had.
     pub fn answer_with(&self, alloc: Global, kept: &mut KeptTexts) -> Result<Answer, AnswerError> {
+        self.answer_explaining(alloc, kept, Explaining::Nothing)
+    }
+
+    /// What `answer` gives, in whose streams `step_mark` marks what each step wrote: in those of
+    /// citations the steps of the program of the citation's layout, and in those of items the steps
+    /// of that of the bibliography's.
+    ///
+    /// # Errors
+    ///
+    /// Those of `answer`.
+    pub fn explained_answer(&self, alloc: Global) -> Result<Answer, AnswerError> {
+        let mut kept = KeptTexts::of_one_answer(alloc);
+        self.answer_explaining(alloc, &mut kept, Explaining::Steps)
+    }
+
+    fn answer_explaining(
+        &self,
+        alloc: Global,
+        kept: &mut KeptTexts,
+        explaining: Explaining,
+    ) -> Result<Answer, AnswerError> {
         kept.begin_answer();
         let cited = cited_references(alloc, self.references, self.citations)?;
         let budget = self.budget(&cited);
@@ -94,6 +116,7 @@ impl<'d> Document<'d> {
             alphabet: Alphabet::of_tag(self.language),
             programs: &programs,
             abbreviations: self.abbreviations,
+            explaining,
             budget: &budget,
         };
         self.answer_in(alloc, setting, cited, kept)

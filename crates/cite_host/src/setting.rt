@@ -6,7 +6,7 @@ use cite_limits::error::StylePlace;
 use cite_locale::chain::LocaleChain;
 use cite_sorting::keys::KeyScene;
 use cite_walk::abbreviations::Abbreviations;
-use cite_walk::cite::{Scene, SceneKind};
+use cite_walk::cite::{Explaining, Scene, SceneKind};
 use style_file::style::CslStyle;
 
 /// A style, with the words of a language and its own programs.
@@ -18,6 +18,7 @@ pub(crate) struct Setting<'s> {
     pub programs: &'s Programs<'s>,
     /// Short forms of texts, where the document brings some.
     pub abbreviations: Option<&'s Abbreviations>,
+    pub explaining: Explaining,
     /// What the document may take.
     pub budget: &'s Budget,
 }
@@ -36,6 +37,7 @@ impl<'s> Setting<'s> {
             program: &self.programs.citation,
             names: &self.style.citation.names,
             kind: SceneKind::Cite,
+            explaining: self.explaining,
             adds_year_suffix: self.programs.adds_year_suffix,
             abbreviations: self.abbreviations,
             budget: self.budget,
@@ -50,6 +52,7 @@ impl<'s> Setting<'s> {
             program: &bibliography.layout,
             names: &bibliography.section.names,
             kind: SceneKind::Item,
+            explaining: self.explaining,
             adds_year_suffix: self.programs.adds_year_suffix,
             abbreviations: self.abbreviations,
             budget: self.budget,

@@ -3,6 +3,7 @@ use crate::cites::Cite;
 use cite_pieces::output::{Element, Output, written};
 use cite_pieces::piece::{Mark, Piece, Wrap};
 use cite_pieces::pieces::Pieces;
+use cite_walk::cite::step_mark;
 use cite_walk::texts::TERM;
 use csl_references::rich_text::RichText;
 use csl_texts::cases::Language;
@@ -11,17 +12,24 @@ use style_file::formatting::TextCase;
 
 /// The names that stand first in a cite, with their label, or what stands in for them.
 pub(crate) fn author_alone(alloc: Global, pieces: Pieces) -> Result<Pieces, AllocError> {
-    match first_author(pieces.as_slice()) {
-        Some(mark) => pieces.only_mark(alloc, mark),
-        None => Ok(pieces),
+    let Some(step) = first_author(pieces.as_slice()) else {
+        return Ok(pieces);
+    };
+    let is_explained = pieces.has_mark(step_mark(step));
+    let author = pieces.only_mark(alloc, Mark::Author(step))?;
+    if !is_explained {
+        return Ok(author);
     }
+    let mut explained = Pieces::new(alloc);
+    explained.push_wrapped(Wrap::Mark(step_mark(step)), author)?;
+    Ok(explained)
 }
 
-/// The mark of the first names in a stream, or of what stands in for names.
-fn first_author(pieces: &[Piece]) -> Option<Mark> {
+/// The step of the first names in a stream, or of what stands in for names.
+fn first_author(pieces: &[Piece]) -> Option<usize> {
     for piece in pieces {
-        if let Piece::Open(Wrap::Mark(Mark::Author(place))) = piece {
-            return Some(Mark::Author(*place));
+        if let Piece::Open(Wrap::Mark(Mark::Author(step))) = piece {
+            return Some(*step);
         }
     }
     None

@@ -15,7 +15,7 @@ use cite_pieces::piece::Mark;
 use cite_pieces::pieces::Pieces;
 use cite_pieces::punctuation::{punctuated, punctuated_but_names};
 use cite_trees::trees::tree_of;
-use cite_walk::cite::{CiteFacts, WrittenCite};
+use cite_walk::cite::{CiteFacts, Explaining, WrittenCite};
 use cite_walk::walk::write_cite;
 use csl_base::elem::ElemChildren;
 use csl_base::names::NameDisambiguationProperties;
@@ -157,7 +157,7 @@ impl<'s, 'i, 'd> TaskWriter<'s, 'i, 'd> {
         let pieces = replace(&mut cite.pieces, Pieces::new(self.alloc));
         let pieces = for_purpose(self.alloc, asked.purpose, pieces)?;
         cite.pieces = self.worded(asked, self.with_quotes_of_fields(pieces)?)?;
-        if asked.shown.is_some() {
+        if asked.shown.is_some() && self.setting.explaining == Explaining::Nothing {
             leave_out_marks(self.alloc, &mut cite)?;
         }
         let formatting = self.setting.style.citation.layout.formatting;

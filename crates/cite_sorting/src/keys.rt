@@ -14,7 +14,7 @@ use cite_pieces::piece::Piece;
 use cite_pieces::pieces::Pieces;
 use cite_program::program::{Program, Step};
 use cite_walk::abbreviations::Abbreviations;
-use cite_walk::cite::{CiteFacts, Scene, SceneKind};
+use cite_walk::cite::{CiteFacts, Explaining, Scene, SceneKind};
 use cite_walk::labels::label_of;
 use cite_walk::sorted::sorted_number;
 use cite_walk::walk::write_cite;
@@ -128,6 +128,7 @@ impl<'s> KeyScene<'s> {
             program,
             names: self.names,
             kind: SceneKind::Key(key),
+            explaining: Explaining::Nothing,
             adds_year_suffix: false,
             abbreviations: self.abbreviations,
             budget: self.budget,

@@ -4,6 +4,7 @@
 //! is decided only where all that stands around it is known.
 #![tactic(auto)]
 
+mod others;
 pub mod shown;
 pub mod streams;
 pub mod trees;

@@ -1,4 +1,5 @@
 //! Streams of trees.
+use crate::others::other_of;
 use cite_pieces::formatting::NOTHING_ASKED;
 use cite_pieces::piece::{QuoteSource, Wrap};
 use cite_pieces::pieces::Pieces;
@@ -9,7 +10,8 @@ use std::alloc::{AllocError, Global};
 use std::mem::replace;
 use style_file::formatting as file;
 
-/// The stream of a tree. What a tree leaves to its caller is left out.
+/// The stream of a tree. What a tree leaves to its caller is left out, and so are its marks, but for
+/// those that aren't the driver's.
 ///
 /// # Errors
 ///
@@ -160,7 +162,7 @@ fn push_elem(alloc: Global, stream: &mut Pieces, elem: &Elem) -> Result<(), Allo
     let wrap = match (&elem.display, &elem.meta) {
         (Some(display), _) => Some(Wrap::Display(file_display(*display))),
         (None, None) => Some(Wrap::Quotes(QuoteSource::Style)),
-        (None, Some(_)) => None,
+        (None, Some(meta)) => other_of(meta).map(Wrap::Mark),
     };
     let Some(wrap) = wrap else {
         return push_children(alloc, stream, &elem.children);

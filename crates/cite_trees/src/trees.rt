@@ -4,6 +4,7 @@ ghost use Rattle.csl_trees.specs.ChildView.{child_view};
 ghost use Rattle.csl_trees.specs.Tree.{child_plain, plain};
 ghost use Rattle.cite_trees.specs.Plain.{before_opened, texts, written};
 
+use crate::others::entry_of_other;
 use crate::streams::stream_of;
 use cite_pieces::formatting::TextFormatting;
 use cite_pieces::piece::{Mark, Piece, Wrap};
@@ -202,9 +203,11 @@ impl Builder<'_> {
             Mark::CitationNumber => ElemMeta::CitationNumber,
             Mark::CitationLabel => ElemMeta::CitationLabel,
             Mark::Entry(place) => ElemMeta::Entry(place),
-            Mark::Author(_) | Mark::YearSuffix | Mark::Locator | Mark::Other(_) => {
-                return Ok(None);
-            }
+            Mark::Other(number) => match entry_of_other(number) {
+                Some(place) => ElemMeta::Entry(place),
+                None => return Ok(None),
+            },
+            Mark::Author(_) | Mark::YearSuffix | Mark::Locator => return Ok(None),
         };
         Ok(Some(meta))
     }

@@ -3,6 +3,7 @@ use crate::abbreviations::Abbreviations;
 use cite_limits::budget::Budget;
 use cite_limits::cost::Cost;
 use cite_locale::chain::LocaleChain;
+use cite_pieces::piece::Mark;
 use cite_pieces::pieces::Pieces;
 use cite_program::program::Program;
 use cite_trees::trees::NamedPersons;
@@ -24,6 +25,7 @@ pub struct Scene<'s> {
     /// The options of names of the citation or the bibliography.
     pub names: &'s InheritedNameOptions,
     pub kind: SceneKind,
+    pub explaining: Explaining,
     /// Whether a year suffix follows the first date.
     pub adds_year_suffix: bool,
     /// Short forms of texts, where the document brings some.
@@ -39,6 +41,27 @@ pub enum SceneKind {
     Item,
     /// The value of a key by which items are sorted.
     Key(SortKey),
+}
+
+/// What a stream says of the elements of the style that wrote it.
+#[derive(Clone, Copy, PartialEq, Eq)]
+pub enum Explaining {
+    Nothing,
+    /// What a step of the program wrote is marked by the step, as `step_mark` gives it.
+    Steps,
+}
+
+/// What is marked that the step at this place of a program wrote. It is never the mark of terms.
+pub fn step_mark(place: usize) -> Mark {
+    Mark::Other(place.saturating_add(1))
+}
+
+/// The place of the step that this mark is of, if it is one of a step.
+pub fn marked_step(mark: Mark) -> Option<usize> {
+    match mark {
+        Mark::Other(number) => number.checked_sub(1),
+        _ => None,
+    }
 }
 
 /// How a cite repeats the one before it.

@@ -1,5 +1,5 @@
 //! The walk through a program.
-use crate::cite::{CiteFacts, Scene, SceneKind, WrittenCite};
+use crate::cite::{CiteFacts, Explaining, Scene, SceneKind, WrittenCite, step_mark};
 use crate::frames::Frame;
 use crate::locators::{ShownLocator, shown_locator};
 use crate::values::Value;
@@ -160,8 +160,22 @@ impl<'s, 'c> Walk<'s, 'c> {
         })
     }
 
-    /// Takes a step.
+    /// Takes a step. What it writes is marked by it, where that is asked for.
     fn take(&mut self, step: Step<'s>) -> Result<(), AllocError> {
+        if self.scene.explaining == Explaining::Nothing {
+            return self.take_unmarked(step);
+        }
+        if begins_element(&step) {
+            self.output.open(marked(step_mark(self.here)))?;
+        }
+        self.take_unmarked(step)?;
+        if ends_element(&step) {
+            self.output.close()?;
+        }
+        Ok(())
+    }
+
+    fn take_unmarked(&mut self, step: Step<'s>) -> Result<(), AllocError> {
         match step {
             Step::Text(text) => self.write_text(text),
             Step::Number(number) => self.write_number(number),
@@ -371,6 +385,31 @@ impl<'s, 'c> Walk<'s, 'c> {
             self.output.unmark();
         }
         self.output.close()
+    }
+}
+
+/// Whether an element of the style begins with a step.
+fn begins_element(step: &Step<'_>) -> bool {
+    match step {
+        Step::OpenSubstitute { .. } | Step::OpenGroup(_) | Step::OpenMacro(_) => true,
+        _ => is_whole_element(step),
+    }
+}
+
+/// Whether an element of the style ends with a step.
+fn ends_element(step: &Step<'_>) -> bool {
+    match step {
+        Step::CloseSubstitute { .. } | Step::CloseGroup => true,
+        _ => is_whole_element(step),
+    }
+}
+
+/// Whether a step is all of an element that writes something.
+fn is_whole_element(step: &Step<'_>) -> bool {
+    match step {
+        Step::Text(_) | Step::Number(_) | Step::Label(_) | Step::Date(_) => true,
+        Step::Names { .. } => true,
+        _ => false,
     }
 }
 

@@ -1,6 +1,7 @@
 //! Citations and bibliographies.
 use crate::abbreviations::told_abbreviations;
 use crate::error::CommandError;
+use crate::explaining::{citations_by_default, explained_references, print_explained};
 use crate::files::bytes_of;
 use crate::json_causes::{behind_mark, json_refused};
 use crate::locales::locales_of;
@@ -33,6 +34,8 @@ enum Printed {
     Citations,
     Bibliography,
     Both,
+    /// Both, and which element of the style wrote each text.
+    Explained,
 }
 
 /// The citations of a command.
@@ -92,6 +95,47 @@ pub(crate) fn bibliography(
     options: &Options,
 ) -> Result<(), CommandError> {
     print_answer(rt, options, Printed::Bibliography)
+}
+
+/// Prints which element of the style wrote each text of citations and of their bibliography.
+///
+/// # Errors
+///
+/// Each of `CommandError` but `Usage`.
+pub(crate) fn explain(
+    rt: &(impl Files + Input + Print + Eprint + AllocGlobal + Clone + Drop),
+    options: &Options,
+) -> Result<(), CommandError> {
+    let found = style_of(rt, options)?;
+    let abbreviations = told_abbreviations(rt, options)?;
+    let references = explained_references(rt, options)?;
+    let cited = explained_citations(rt, options, &found.style, &references)?;
+    let asked = AskedDocument {
+        found: &found,
+        references: &references,
+        cited: &cited,
+        abbreviations: abbreviations.as_ref(),
+    };
+    print_document(rt, options, Printed::Explained, asked)
+}
+
+/// The citations of the file, or else those of each reference.
+fn explained_citations(
+    rt: &(impl Files + Input + Eprint + AllocGlobal),
+    options: &Options,
+    style: &CslStyle,
+    references: &References,
+) -> Result<Cited, CommandError> {
+    if options.citations.is_some() {
+        return citations_of(rt, options, style, references);
+    }
+    let citations = citations_by_default(rt.alloc(), options, references)?;
+    let count = citations.len();
+    Ok(Cited {
+        citations,
+        drafted: None,
+        count,
+    })
 }
 
 fn print_answer(
@@ -204,9 +248,10 @@ fn print_in_language<'p>(
     let style = &asked.found.style;
     let files = locales_of(rt, options, language)?;
     let locale = LocaleChain::new(rt.alloc(), language, &style.locales, &files)?;
-    let is_whole = options.format == OutputFormat::Json;
-    let lists_items = is_whole || printed != Printed::Citations;
-    let answer = answer_of(rt.alloc(), options, asked, &locale, language, lists_items)?;
+    let answer = answer_of(rt.alloc(), options, asked, &locale, language, printed)?;
+    if printed == Printed::Explained {
+        return print_explained(rt, options, asked.found, &answer, locale.quote_marks());
+    }
     let printing = Printing {
         options,
         style,
@@ -214,13 +259,13 @@ fn print_in_language<'p>(
         language,
         marks: locale.quote_marks(),
     };
-    if is_whole {
+    if options.format == OutputFormat::Json {
         return print_json(rt, &printing, &answer);
     }
     match printed {
         Printed::Citations => print_citations(rt, &printing, &answer),
         Printed::Bibliography => print_bibliography(rt, &printing, &answer),
-        Printed::Both => print_both(rt, &printing, &answer),
+        Printed::Both | Printed::Explained => print_both(rt, &printing, &answer),
     }
 }
 
@@ -231,7 +276,7 @@ fn answer_of(
     asked: AskedDocument<'_>,
     locale: &LocaleChain<'_>,
     language: &str,
-    lists_items: bool,
+    printed: Printed,
 ) -> Result<Answer, CommandError> {
     let document = Document {
         style: &asked.found.style,
@@ -240,10 +285,15 @@ fn answer_of(
         references: asked.references,
         citations: asked.cited.written(),
         abbreviations: asked.abbreviations,
-        lists_items,
+        lists_items: options.format == OutputFormat::Json || printed != Printed::Citations,
         part: part_of(options),
     };
-    match document.answer(alloc) {
+    let answer = if printed == Printed::Explained {
+        document.explained_answer(alloc)
+    } else {
+        document.answer(alloc)
+    };
+    match answer {
         Ok(mut answer) => {
             answer.citations.truncate(asked.cited.count);
             Ok(answer)

@@ -11,6 +11,7 @@ mod document_error;
 mod documents;
 mod entries;
 mod error;
+mod explaining;
 mod files;
 mod items;
 mod json_causes;
@@ -54,6 +55,7 @@ fn run(
         Command::Check(paths) => return checking::check_all(rt, &paths),
         Command::Cite(options) => commands::cite(rt, &options)?,
         Command::Bibliography(options) => commands::bibliography(rt, &options)?,
+        Command::Explain(options) => commands::explain(rt, &options)?,
         Command::Entries(options) => entries::entries(rt, &options)?,
         Command::Render(options) => documents::render(rt, &options)?,
         Command::Session => sessions::answer_lines(rt)?,

@@ -1,5 +1,5 @@
-//! What is built in, byte for byte: four styles of CSL 1.0.2, the files of examples/styles, and the
-//! style sheet of pages.
+//! What is built in, byte for byte: four styles of CSL 1.0.2, with works and citations, the files of
+//! examples/styles, and the style sheet of pages.
 #![tactic(auto)]
 
 mod author_date;
@@ -8,3 +8,4 @@ mod notes;
 mod numeric;
 pub mod sheet;
 pub mod styles;
+pub mod works;

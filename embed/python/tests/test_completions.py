@@ -11,7 +11,7 @@ from conftest import PROJECT
 
 COMPLETIONS = os.path.normpath(f'{PROJECT}/../completions')
 STYLES = ['author-date', 'labels', 'notes', 'numeric']
-COMMANDS = ['cite', 'bibliography', 'session', 'render', 'check', 'entries', 'styles', 'css', 'help']
+COMMANDS = ['cite', 'bibliography', 'explain', 'session', 'render', 'check', 'entries', 'styles', 'css', 'help']
 PROGRAM = '''#!/bin/sh
 if [ "$*" = styles ]; then
     printf '%s\\n' {}
