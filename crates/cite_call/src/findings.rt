@@ -32,6 +32,21 @@ pub(crate) fn print_findings(
     Value::Object(members).to_string(alloc)
 }
 
+/// A JSON object with items, which are a list of CSL-JSON, and with the warnings.
+///
+/// # Errors
+///
+/// Where memory is refused.
+pub(crate) fn print_items(
+    alloc: Global,
+    items: &str,
+    warnings: &[Remark],
+) -> Result<String, AllocError> {
+    let items = items.trim();
+    let warnings = remark_list(alloc, warnings)?.to_string(alloc)?;
+    format!(in alloc; "{{\"items\":{items},\"warnings\":{warnings}}}")
+}
+
 /// A JSON object with the warnings of some texts, in the order of these, as `find_fault` has them.
 ///
 /// # Errors
@@ -89,20 +104,28 @@ fn remark_members(alloc: Global, remark: &Remark) -> Result<Map<String, Value>, 
     let message = remark.message.clone()?;
     put(&mut members, alloc, "file", Value::String(name))?;
     put(&mut members, alloc, "message", Value::String(message))?;
-    match &remark.place {
-        TextPlace::Whole => {}
+    put_place(alloc, &mut members, &remark.place)?;
+    Ok(members)
+}
+
+/// Adds where something is.
+fn put_place(
+    alloc: Global,
+    members: &mut Map<String, Value>,
+    place: &TextPlace,
+) -> Result<(), AllocError> {
+    match place {
+        TextPlace::Whole => Ok(()),
         TextPlace::Line { line, column } => {
-            put(&mut members, alloc, "line", Value::from(*line))?;
-            put(&mut members, alloc, "column", Value::from(*column))?;
+            put(members, alloc, "line", Value::from(*line))?;
+            put(members, alloc, "column", Value::from(*column))
         }
         TextPlace::Pointer(pointer) => {
-            put(
-                &mut members,
-                alloc,
-                "pointer",
-                Value::String(pointer.clone()?),
-            )?;
+            put(members, alloc, "pointer", Value::String(pointer.clone()?))
+        }
+        TextPlace::Field { entry, field } => {
+            put(members, alloc, "entry", Value::String(entry.clone()?))?;
+            put(members, alloc, "field", Value::String(field.clone()?))
         }
     }
-    Ok(members)
 }

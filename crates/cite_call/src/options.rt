@@ -8,6 +8,7 @@ use cite_limits::budget::USUAL_PART;
 use cite_limits::cost::Cost;
 use cite_walk::abbreviations::Abbreviations;
 use csl_json::fault::{Pointer, Step};
+use reference_files::form::ReferenceForm;
 use serde_json::Value;
 use std::alloc::{AllocError, Global};
 use write_forms::forms::Form;
@@ -27,6 +28,8 @@ pub struct CallOptions {
     pub form: Option<AnswerForm>,
     /// Whether the document is a draft, in which cites of items that aren't there are no fault.
     pub is_draft: bool,
+    /// The form of the items, where one is named.
+    pub from: Option<ReferenceForm>,
 }
 
 /// The form of an answer.
@@ -51,6 +54,7 @@ pub(crate) fn options_of(alloc: Global, bytes: &[u8]) -> Result<CallOptions, Cal
         part: USUAL_PART,
         form: None,
         is_draft: false,
+        from: None,
     };
     if bytes.is_empty() {
         return Ok(options);
@@ -95,6 +99,7 @@ fn set_option(
             Value::Bool(is_draft) => options.is_draft = *is_draft,
             _ => return Err(wrong_option(alloc, key, "wanted true or false")),
         },
+        "from" => options.from = Some(reference_form_in(alloc, value)?),
         _ => return Err(wrong_option(alloc, key, UNKNOWN_KEY)),
     }
     Ok(())
@@ -102,7 +107,7 @@ fn set_option(
 
 /// What is wrong with an unknown key.
 const UNKNOWN_KEY: &str = "unknown key; the options are `locale`, `nocite`, `abbreviations`, \
-    `limits`, `form` and `draft`";
+    `limits`, `form`, `draft` and `from`";
 
 /// The form that the value names.
 fn form_in(alloc: Global, value: &Value) -> Result<AnswerForm, CallError> {
@@ -119,6 +124,21 @@ fn form_in(alloc: Global, value: &Value) -> Result<AnswerForm, CallError> {
         _ => {
             let why = "wanted `text`, `html`, `markdown`, `latex` or `json`";
             Err(wrong_option(alloc, "form", why))
+        }
+    }
+}
+
+/// The form of references that the value names.
+fn reference_form_in(alloc: Global, value: &Value) -> Result<ReferenceForm, CallError> {
+    let name = match value {
+        Value::String(name) => name.as_str(),
+        _ => "",
+    };
+    match ReferenceForm::of_name(name) {
+        Some(form) => Ok(form),
+        None => {
+            let why = "wanted `csl-json`, `bibtex`, `biblatex` or `ris`";
+            Err(wrong_option(alloc, "from", why))
         }
     }
 }
