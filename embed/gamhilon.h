@@ -222,7 +222,10 @@ uint32_t gamhilon_find_cite_fault(gamhilon_text style, gamhilon_text locales, ga
  * says what was lost of them, and what can't be read; `fault` is there in place of `items` where
  * the text isn't of its form, or the options are wrong: both as gamhilon_find_cite_fault has them.
  * Of the options of gamhilon_cite, `from` and `locale` count: entries that say no language have
- * that of `locale`, or else American English. Items of CSL-JSON are handed out as they are.
+ * that of `locale`, or else American English. Items of CSL-JSON are handed out as they are. Where
+ * the option `entries` is true, there are also the entries of BibTeX, as they stand in the text:
+ *
+ *     {"entries":[{"fields":{"title":"On Order"},"key":"doe99","type":"book"}],"items":[..], ..}
  *
  * The JSON is rarely longer than twice the references. Ends with GAMHILON_OK,
  * GAMHILON_OUT_OF_MEMORY or GAMHILON_BUFFER_TOO_SMALL. */

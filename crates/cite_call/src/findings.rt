@@ -32,7 +32,8 @@ pub(crate) fn print_findings(
     Value::Object(members).to_string(alloc)
 }
 
-/// A JSON object with items, which are a list of CSL-JSON, and with the warnings.
+/// A JSON object with items, which are a list of CSL-JSON, with the list of entries, where that is
+/// asked for, and with the warnings.
 ///
 /// # Errors
 ///
@@ -40,11 +41,17 @@ pub(crate) fn print_findings(
 pub(crate) fn print_items(
     alloc: Global,
     items: &str,
+    entries: &Option<Value>,
     warnings: &[Remark],
 ) -> Result<String, AllocError> {
     let items = items.trim();
-    let warnings = remark_list(alloc, warnings)?.to_string(alloc)?;
-    format!(in alloc; "{{\"items\":{items},\"warnings\":{warnings}}}")
+    let warnings = remark_list(alloc, warnings)?;
+    match entries {
+        Some(entries) => {
+            format!(in alloc; "{{\"items\":{items},\"entries\":{entries},\"warnings\":{warnings}}}")
+        }
+        None => format!(in alloc; "{{\"items\":{items},\"warnings\":{warnings}}}"),
+    }
 }
 
 /// A JSON object with the warnings of some texts, in the order of these, as `find_fault` has them.

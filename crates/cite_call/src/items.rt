@@ -43,7 +43,7 @@ impl TextReader {
         bytes: &[u8],
         options: &CallOptions,
     ) -> Result<Option<String>, CallError> {
-        let form = options.from.unwrap_or(ReferenceForm::of_bytes(bytes));
+        let form = options.form_of(bytes);
         if form == ReferenceForm::Json {
             return Ok(None);
         }

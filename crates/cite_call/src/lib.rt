@@ -6,6 +6,7 @@
 pub mod calling;
 pub mod citations;
 mod document;
+mod entries;
 pub mod error;
 pub mod findings;
 mod items;

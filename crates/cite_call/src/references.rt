@@ -1,18 +1,21 @@
 //! References in any form, as CSL-JSON.
 ghost use Rattle.std.specs.Prelude.{◌≡◌, IfErr};
 
+use crate::entries::entries_in;
 use crate::error::CallError;
 use crate::findings::{print_findings, print_items};
 use crate::json::json_value;
 use crate::options::options_of;
 use crate::reader::TextReader;
 use crate::texts::TextName;
+use serde_json::Value;
 use std::alloc::Global;
 
 /// The items of a text of CSL-JSON, BibTeX, BibLaTeX or RIS, as a JSON object: `items`, their list
 /// in CSL-JSON, and `warnings`, the list of what was lost of their entries or is odd in them, as
 /// `find_fault` has it. Where the text or the options are wrong, `fault` says what is, and there
-/// are no `items`. Of the options `from` and `locale` count.
+/// are no `items`. Of the options `from`, `locale` and `entries` count: where that is true,
+/// `entries` has those of BibTeX as they stand in the text.
 ///
 /// # Errors
 ///
@@ -24,7 +27,7 @@ pub fn read_references(alloc: Global, text: &[u8], options: &[u8]) -> Result<Str
     let read = reader.items_as_json(text, options);
     let TextReader { warnings, .. } = reader;
     let printed = match read {
-        Ok(items) => print_items(alloc, items.as_str(), &warnings),
+        Ok(read) => print_items(alloc, read.items.as_str(), &read.entries, &warnings),
         Err(CallError::Fault(fault)) => {
             print_findings(alloc, Some(fault), Vec::new(alloc), warnings)
         }
@@ -36,14 +39,29 @@ pub fn read_references(alloc: Global, text: &[u8], options: &[u8]) -> Result<Str
     }
 }
 
+/// What was read of a text of references, as JSON.
+#[derive(Drop)]
+struct ReadJson {
+    /// The list of items, in CSL-JSON.
+    items: String,
+    /// The list of entries, where it is asked for.
+    entries: Option<Value>,
+}
+
 impl TextReader {
-    /// The list of items of a text, in CSL-JSON.
-    fn items_as_json(&mut self, text: &[u8], options: &[u8]) -> Result<String, CallError> {
+    /// The items of a text, and its entries where the options ask for them.
+    fn items_as_json(&mut self, text: &[u8], options: &[u8]) -> Result<ReadJson, CallError> {
         let options = options_of(self.alloc, options)?;
-        match self.converted_items(text, &options)? {
-            Some(json) => Ok(json),
-            None => self.items_as_they_stand(text),
-        }
+        let items = match self.converted_items(text, &options)? {
+            Some(json) => json,
+            None => self.items_as_they_stand(text)?,
+        };
+        let entries = if options.shows_entries {
+            Some(entries_in(self.alloc, text, options.form_of(text))?)
+        } else {
+            None
+        };
+        Ok(ReadJson { items, entries })
     }
 
     /// The list of items of CSL-JSON, as it stands there.
