@@ -12,8 +12,8 @@ use std::alloc::{AllocError, Global};
 pub(crate) fn print_findings(
     alloc: Global,
     fault: Option<Fault>,
-    faults: Vec<Remark>,
-    warnings: Vec<Remark>,
+    faults: &[Remark],
+    warnings: &[Remark],
 ) -> Result<String, AllocError> {
     let mut members = Map::new(alloc);
     if let Some(fault) = fault {
@@ -21,13 +21,13 @@ pub(crate) fn print_findings(
         put(&mut members, alloc, "fault", value)?;
     }
     if !faults.is_empty() {
-        put(&mut members, alloc, "faults", remark_list(alloc, &faults)?)?;
+        put(&mut members, alloc, "faults", remark_list(alloc, faults)?)?;
     }
     put(
         &mut members,
         alloc,
         "warnings",
-        remark_list(alloc, &warnings)?,
+        remark_list(alloc, warnings)?,
     )?;
     Value::Object(members).to_string(alloc)
 }

@@ -25,12 +25,9 @@ pub fn read_references(alloc: Global, text: &[u8], options: &[u8]) -> Result<Str
 {
     let mut reader = TextReader::new(alloc);
     let read = reader.items_as_json(text, options);
-    let TextReader { warnings, .. } = reader;
     let printed = match read {
-        Ok(read) => print_items(alloc, read.items.as_str(), &read.entries, &warnings),
-        Err(CallError::Fault(fault)) => {
-            print_findings(alloc, Some(fault), Vec::new(alloc), warnings)
-        }
+        Ok(read) => print_items(alloc, read.items.as_str(), &read.entries, &reader.warnings),
+        Err(CallError::Fault(fault)) => print_findings(alloc, Some(fault), &[], &reader.warnings),
         Err(_) => return Err(CallError::OutOfMemory),
     };
     match printed {
