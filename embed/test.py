@@ -5,7 +5,7 @@ tests/documents/ and examples/; then it runs the tests of the Python package.
 
 It needs the toolchain and a C compiler. What else it would use (c++, cargo, cmake, pkg-config,
 valgrind, dpkg-deb, bash, zsh, fish, mandoc, groff, man, pip, venv, pandoc, chromium, pytest, mypy,
-python3-pandocfilters, python3-jsonschema, python3-pybtex, python3-yaml, python3-distributed,
+python3-pandocfilters, python3-jsonschema, python3-yaml, python3-distributed,
 python3-markdown, mkdocs, citation-style-language-styles and citation-style-language-locales) is
 left out where it is missing, and a line says so. --many N has valgrind watch N calls in four
 threads, where it is 300 else. The last line is 'N passed, M failed', and the exit status is 1 where
@@ -575,8 +575,7 @@ def python_with_pytest():
         return os.path.exists(python) and ran(python, '-c', f'import {module}').returncode == 0
 
     pythons = [python for python in (sys.executable, '/usr/bin/python3') if has(python, 'pytest')]
-    names = ('mypy', 'pandocfilters', 'jsonschema', 'pybtex', 'yaml', 'distributed', 'markdown',
-             'mkdocs')
+    names = ('mypy', 'pandocfilters', 'jsonschema', 'yaml', 'distributed', 'markdown', 'mkdocs')
     return max(pythons, key=lambda python: sum(has(python, name) for name in names), default=None)
 
 
