@@ -43,6 +43,7 @@ PAUSE = 30
 EXPORTS = [
     'gamhilon_cite',
     'gamhilon_find_cite_fault',
+    'gamhilon_read_references',
     'gamhilon_drive',
     'gamhilon_find_driven_fault',
     'gamhilon_find_fault',

@@ -1,10 +1,10 @@
 /* Gamhilon: citations and bibliographies, for C99 and C++17.
  *
- * gamhilon_cite takes the texts of a style file, of items and of citations (docs/WRITER.md). The
- * other calls take a document, which is JSON (docs/DOCUMENT.md; for the driven calls
- * docs/DRIVEN.md). A call puts what comes of them into a buffer of the caller's. Nothing stays
- * between calls, and nothing is to be initialised or freed. A session alone (gamhilon_session_open)
- * is kept from one call to the next, and closed.
+ * gamhilon_cite takes the texts of a style file, of items and of citations (docs/WRITER.md), and
+ * gamhilon_read_references reads BibTeX, BibLaTeX and RIS. The calls on documents take JSON
+ * (docs/DOCUMENT.md; for the driven calls docs/DRIVEN.md). A call puts what comes of them into a
+ * buffer of the caller's. Nothing stays between calls, and nothing is to be initialised or freed. A
+ * session alone (gamhilon_session_open) is kept from one call to the next, and closed.
  *
  * As long as the first number of GAMHILON_VERSION stays 0, a change of its second number may change
  * calls; from 1.0.0 on the calls, the statuses and the name of the shared object stay as long as
@@ -20,9 +20,9 @@ extern "C" {
 #endif
 
 /* The version of this header. gamhilon_version gives that of the library. */
-#define GAMHILON_VERSION "0.2.0"
+#define GAMHILON_VERSION "0.3.0"
 #define GAMHILON_VERSION_MAJOR 0
-#define GAMHILON_VERSION_MINOR 2
+#define GAMHILON_VERSION_MINOR 3
 #define GAMHILON_VERSION_PATCH 0
 
 /* ---- Statuses -----------------------------------------------------------------------------------
@@ -128,14 +128,23 @@ uint32_t gamhilon_render_json(const uint8_t *document, size_t document_length,
 
 /* ---- Style files --------------------------------------------------------------------------------
  *
- * Both calls take five texts in UTF-8, of which no file is opened:
+ * The calls on style files, references and sessions take texts. */
+
+/* A text in UTF-8. `bytes` may be null where `length` is 0, so {NULL, 0} is an empty text. A call
+ * keeps no pointer to it. */
+typedef struct {
+    const uint8_t *bytes;
+    size_t length;
+} gamhilon_text;
+
+/* gamhilon_cite and gamhilon_find_cite_fault take five texts, of which no file is opened:
  *
  * - `style`: a style file of CSL 1.0.2 that stands for itself. One that stands for another style is
  *   refused, and gamhilon_find_cite_fault gives the link to that one.
  * - `locales`: a JSON list of the texts of locale files. Words are looked for in those of the
  *   dialect, of the language's primary dialect and of American English (en-US), which is built in;
  *   the others aren't used. An empty text is an empty list.
- * - `items`: CSL-JSON (docs/REFERENCES.md).
+ * - `items`: CSL-JSON (docs/REFERENCES.md), BibTeX, BibLaTeX or RIS (docs/GUIDES/REFERENCES.md).
  * - `citations`: a JSON list of citations, each a list of cites, or an object with these as
  *   `citationItems`, and maybe `citationID` and `properties` with `noteIndex` and `unsorted`. A
  *   cite is an object with `id`, and maybe `locator`, `label`, `prefix`, `suffix`,
@@ -143,10 +152,11 @@ uint32_t gamhilon_render_json(const uint8_t *document, size_t document_length,
  * - `options`: a JSON object of `locale`, a language tag that stands in place of the style's;
  *   `nocite`: where it is true, items that aren't cited are listed too; `abbreviations`, short
  *   forms of texts (docs/STYLE_FILES.md); `limits`, an object of `steps` and `bytes` ("Documents
- *   from others", below); `draft`: where it is true, a cite of an item that isn't there is its id in
- *   bold letters, and an item with a fault is left out, each with a warning; and `form`: `text`,
- *   `html`, `markdown`, `latex`, or `json`, which is the usual one. Other keys are refused. An empty
- *   text is an empty object.
+ *   from others", below); `draft`: where it is true, a cite of an item that isn't there is its id
+ *   in bold letters, and an item with a fault is left out, each with a warning; `from`, the form of
+ *   the items: `csl-json`, `bibtex`, `biblatex` or `ris`, or else the form that their text begins
+ *   as; and `form`: `text`, `html`, `markdown`, `latex`, or `json`, which is the usual one. Other
+ *   keys are refused. An empty text is an empty object.
  *
  * Answers may be longer than the texts: a first buffer of 64 KiB and eight times the length of
  * items and citations together will mostly do.
@@ -165,12 +175,9 @@ uint32_t gamhilon_render_json(const uint8_t *document, size_t document_length,
  * Ends with GAMHILON_OK, GAMHILON_DOCUMENT_REFUSED, GAMHILON_NUMBER_OVERFLOW,
  * GAMHILON_OUT_OF_MEMORY, GAMHILON_BUFFER_TOO_SMALL or GAMHILON_LIMIT_EXCEEDED. That the text
  * stands in the buffer is proved, and not which text it is. */
-uint32_t gamhilon_cite(const uint8_t *style, size_t style_length,
-                       const uint8_t *locales, size_t locales_length,
-                       const uint8_t *items, size_t items_length,
-                       const uint8_t *citations, size_t citations_length,
-                       const uint8_t *options, size_t options_length,
-                       uint8_t *buffer, size_t buffer_length, size_t *needed);
+uint32_t gamhilon_cite(gamhilon_text style, gamhilon_text locales, gamhilon_text items,
+                       gamhilon_text citations, gamhilon_text options, uint8_t *buffer,
+                       size_t buffer_length, size_t *needed);
 
 /* Finds what is wrong and odd in the texts: puts a JSON object into the buffer, as
  *
@@ -193,14 +200,37 @@ uint32_t gamhilon_cite(const uint8_t *style, size_t style_length,
  * style file that stands for another one has the link to that as `parent`, and maybe as
  * `parent_locale` the language to be asked for by the option `locale`.
  *
+ * Of items in another form than CSL-JSON, what can't be read has its line and its column, and what
+ * is lost of an entry the key of that as `entry` and the field as `field`:
+ *
+ *     {"entry":"doe99","field":"series","file":"items","message":".."}
+ *
  * It writes no citation, and takes far less time than gamhilon_cite. Ends with GAMHILON_OK,
  * GAMHILON_OUT_OF_MEMORY or GAMHILON_BUFFER_TOO_SMALL. */
-uint32_t gamhilon_find_cite_fault(const uint8_t *style, size_t style_length,
-                                  const uint8_t *locales, size_t locales_length,
-                                  const uint8_t *items, size_t items_length,
-                                  const uint8_t *citations, size_t citations_length,
-                                  const uint8_t *options, size_t options_length,
-                                  uint8_t *buffer, size_t buffer_length, size_t *needed);
+uint32_t gamhilon_find_cite_fault(gamhilon_text style, gamhilon_text locales, gamhilon_text items,
+                                  gamhilon_text citations, gamhilon_text options, uint8_t *buffer,
+                                  size_t buffer_length, size_t *needed);
+
+/* Reads references in any of the forms that gamhilon_cite takes as `items`: puts a JSON object into
+ * the buffer, as
+ *
+ *     {"items":[{"id":"doe99","type":"book","title":"On order"}],
+ *         "warnings":[{"entry":"doe99","field":"series","file":"items","message":".."}]}
+ *     {"fault":{"column":3,"file":"items","line":7,"message":".."},"warnings":[]}
+ *
+ * `items` is the list of items in CSL-JSON, for gamhilon_cite or for other programs. `warnings`
+ * says what was lost of them, and what can't be read; `fault` is there in place of `items` where
+ * the text isn't of its form, or the options are wrong: both as gamhilon_find_cite_fault has them.
+ * Of the options of gamhilon_cite, `from` and `locale` count: entries that say no language have
+ * that of `locale`, or else American English. Items of CSL-JSON are handed out as they are. Where
+ * the option `entries` is true, there are also the entries of BibTeX, as they stand in the text:
+ *
+ *     {"entries":[{"fields":{"title":"On Order"},"key":"doe99","type":"book"}],"items":[..], ..}
+ *
+ * The JSON is rarely longer than twice the references. Ends with GAMHILON_OK,
+ * GAMHILON_OUT_OF_MEMORY or GAMHILON_BUFFER_TOO_SMALL. */
+uint32_t gamhilon_read_references(gamhilon_text references, gamhilon_text options, uint8_t *buffer,
+                                  size_t buffer_length, size_t *needed);
 
 /* ---- Sessions -----------------------------------------------------------------------------------
  *
@@ -209,11 +239,11 @@ uint32_t gamhilon_find_cite_fault(const uint8_t *style, size_t style_length,
  * what didn't change isn't written again.
  *
  *     gamhilon_session session = GAMHILON_NO_SESSION;
- *     uint32_t status = gamhilon_session_open(&session, style, style_length, NULL, 0, NULL, 0);
- *     if (status == GAMHILON_OK)
- *         status = gamhilon_session_put_items(&session, items, items_length);
+ *     gamhilon_text none = {NULL, 0};
+ *     uint32_t status = gamhilon_session_open(&session, style, none, none);
+ *     if (status == GAMHILON_OK) status = gamhilon_session_put_items(&session, items);
  *     ...
- *     status = gamhilon_session_set_citations(&session, citations, citations_length);
+ *     status = gamhilon_session_set_citations(&session, citations);
  *     if (status == GAMHILON_OK)
  *         status = gamhilon_session_answer(&session, buffer, buffer_length, &needed);
  *     ...
@@ -249,40 +279,34 @@ typedef struct {
  *
  * Ends with GAMHILON_OK, GAMHILON_DOCUMENT_REFUSED, GAMHILON_LIMIT_EXCEEDED or
  * GAMHILON_OUT_OF_MEMORY. gamhilon_session_error says what is wrong; close the session then too. */
-uint32_t gamhilon_session_open(gamhilon_session *session,
-                               const uint8_t *style, size_t style_length,
-                               const uint8_t *locales, size_t locales_length,
-                               const uint8_t *options, size_t options_length);
+uint32_t gamhilon_session_open(gamhilon_session *session, gamhilon_text style,
+                               gamhilon_text locales, gamhilon_text options);
 
 /* From now on the document is written in another style, with its own locales and options.
  *
  * Ends with the statuses of gamhilon_session_open, or with GAMHILON_SESSION_NOT_OPEN. */
-uint32_t gamhilon_session_set_style(gamhilon_session *session,
-                                    const uint8_t *style, size_t style_length,
-                                    const uint8_t *locales, size_t locales_length,
-                                    const uint8_t *options, size_t options_length);
+uint32_t gamhilon_session_set_style(gamhilon_session *session, gamhilon_text style,
+                                    gamhilon_text locales, gamhilon_text options);
 
-/* Puts items, which are CSL-JSON: each is new, or stands in place of the one with its id.
+/* Puts items, in any of the forms that gamhilon_cite takes: each is new, or stands in place of the
+ * one with its id. The option `from` of the session's style names their form, where it is there.
  *
  * Ends with GAMHILON_OK, GAMHILON_DOCUMENT_REFUSED, GAMHILON_OUT_OF_MEMORY or
  * GAMHILON_SESSION_NOT_OPEN. */
-uint32_t gamhilon_session_put_items(gamhilon_session *session, const uint8_t *items,
-                                    size_t items_length);
+uint32_t gamhilon_session_put_items(gamhilon_session *session, gamhilon_text items);
 
 /* Removes the items of these ids, which are a JSON list of texts or numbers. Ids that no item has
  * are ignored.
  *
  * Ends with the statuses of gamhilon_session_put_items. */
-uint32_t gamhilon_session_remove_items(gamhilon_session *session, const uint8_t *ids,
-                                       size_t ids_length);
+uint32_t gamhilon_session_remove_items(gamhilon_session *session, gamhilon_text ids);
 
 /* Puts these citations in place of all others: always the whole list, as gamhilon_cite has it. The
  * key of a citation is its `citationID`, or else its place in the list, from 0. Two citations with
  * one key are refused.
  *
  * Ends with the statuses of gamhilon_session_put_items. */
-uint32_t gamhilon_session_set_citations(gamhilon_session *session, const uint8_t *citations,
-                                        size_t citations_length);
+uint32_t gamhilon_session_set_citations(gamhilon_session *session, gamhilon_text citations);
 
 /* Puts what changed since the last answer into the buffer, as JSON; at the first answer that is
  * all:

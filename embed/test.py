@@ -5,7 +5,7 @@ tests/documents/ and examples/; then it runs the tests of the Python package.
 
 It needs the toolchain and a C compiler. What else it would use (c++, cargo, cmake, pkg-config,
 valgrind, dpkg-deb, bash, zsh, fish, mandoc, groff, man, pip, venv, pandoc, chromium, pytest, mypy,
-python3-pandocfilters, python3-jsonschema, python3-pybtex, python3-yaml, python3-distributed,
+python3-pandocfilters, python3-jsonschema, python3-yaml, python3-distributed,
 python3-markdown, mkdocs, citation-style-language-styles and citation-style-language-locales) is
 left out where it is missing, and a line says so. --many N has valgrind watch N calls in four
 threads, where it is 300 else. The last line is 'N passed, M failed', and the exit status is 1 where
@@ -309,7 +309,7 @@ def put_texts(folder, name, files):
 
 def answers_of_texts(folder, length, places):
     """The status and the bytes of each call on the texts of some folders, in a buffer of that
-    length: of each folder the answer, and what is wrong and odd."""
+    length: of each folder the answer, what is wrong and odd, and the items."""
     done = ran(f'{folder}/cites', str(length), *places)
     hold(done.returncode == 0, f'cites {length}: {done.stderr.decode()[:600]}')
     answers, at = [], 0
@@ -319,7 +319,7 @@ def answers_of_texts(folder, length, places):
         size = size if status == 0 else 0
         answers.append((status, done.stdout[end + 1:end + 1 + size]))
         at = end + 1 + size
-    return list(zip(answers[::2], answers[1::2]))
+    return list(zip(answers[::3], answers[1::3], answers[2::3]))
 
 
 def try_texts(folder):
@@ -334,7 +334,8 @@ def try_texts(folder):
                for number, case in enumerate(cases)]
     found = answers_of_texts(folder, 1 << 16, answered + refused)
     hold(found == answers_of_texts(folder, 1, answered + refused), 'texts in a buffer of one byte')
-    for (name, _, cited, notes, listed, warnings), (answer, findings) in zip(texts.ANSWERED, found):
+    for (name, _, *wanted), (answer, findings, _) in zip(texts.ANSWERED, found):
+        cited, notes, listed, warnings = wanted
         hold(answer[0] == 0 and findings[0] == 0, f'texts: {name}: {answer}, {findings}')
         value = json.loads(answer[1] or b'{"citations":[]}')
         hold([plain(citation['content']) for citation in value['citations']] == cited
@@ -346,7 +347,7 @@ def try_texts(folder):
              f'texts: {name}: the warnings are {findings[1].decode()}')
         if schema:
             hold(schema.is_valid(value), f'texts: {name}: its JSON against docs/answer.schema.json')
-    for (status, name, _, fault), (answer, findings) in zip(cases, found[len(answered):]):
+    for (status, name, _, fault), (answer, findings, _) in zip(cases, found[len(answered):]):
         told = json.loads(findings[1] or b'{}').get('fault', {})
         wanted = fault or {}
         hold(answer == (status, b'') and findings[0] == 0
@@ -354,6 +355,7 @@ def try_texts(folder):
              and {**told, 'message': ''} == {**wanted, 'message': ''},
              f'texts: {name}: status {answer[0]}, the fault is {told}')
     try_forms(folder, texts)
+    try_references(folder, texts)
     try_hard_texts(folder, texts, answered)
 
 
@@ -362,9 +364,21 @@ def try_forms(folder, texts):
     for form, items in texts.FORMS:
         files = texts.texts(options={'form': form})
         place = put_texts(folder, f'form {form}', files)
-        [(answer, _)] = answers_of_texts(folder, 1 << 16, [place])
+        [(answer, *_)] = answers_of_texts(folder, 1 << 16, [place])
         lines = ''.join(f'{line}\n' for line in [*texts.CITED, '', *items])
         hold(answer == (0, lines.encode()), f'texts: in the form {form}: {answer}')
+
+
+def try_references(folder, texts):
+    """The items of references in each form as CSL-JSON, and what was lost of them, in a buffer that
+    fits and in one of a byte."""
+    places = [put_texts(folder, f'references {number}', files)
+              for number, (_, files, _) in enumerate(texts.REFERENCES)]
+    found = answers_of_texts(folder, 1 << 16, places)
+    hold(found == answers_of_texts(folder, 1, places), 'references in a buffer of one byte')
+    for (name, _, wanted), (*_, (status, text)) in zip(texts.REFERENCES, found):
+        hold(status == 0 and json.loads(text) == wanted,
+             f'references: {name}: {status}, {text.decode()}')
 
 
 def try_hard_texts(folder, texts, answered):
@@ -378,7 +392,7 @@ def try_hard_texts(folder, texts, answered):
         done = ran(*VALGRIND, f'{folder}/cites', '1', *small, answered[0])
         hold(done.returncode == 0, f'valgrind, texts: {done.stderr.decode()[:900]}')
     deep = [put_texts(folder, f'deep {number}', files) for number, files in enumerate(texts.DEEP)]
-    hold([int(answer[0]) for answer, _ in answers_of_texts(folder, 1 << 16, deep)] == [0, 0, 2],
+    hold([answer[0] for answer, *_ in answers_of_texts(folder, 1 << 16, deep)] == [0, 0, 2],
          'style files that nest as deep as is read are answered')
     hold_stack(folder, ['--texts', *answered, *deep], STACK_OF_TEXTS)
     place = answered[0]
@@ -561,8 +575,7 @@ def python_with_pytest():
         return os.path.exists(python) and ran(python, '-c', f'import {module}').returncode == 0
 
     pythons = [python for python in (sys.executable, '/usr/bin/python3') if has(python, 'pytest')]
-    names = ('mypy', 'pandocfilters', 'jsonschema', 'pybtex', 'yaml', 'distributed', 'markdown',
-             'mkdocs')
+    names = ('mypy', 'pandocfilters', 'jsonschema', 'yaml', 'distributed', 'markdown', 'mkdocs')
     return max(pythons, key=lambda python: sum(has(python, name) for name in names), default=None)
 
 

@@ -1,6 +1,6 @@
 /* cite: writes citations by a style file, and the list of what they cite, as JSON (docs/ANSWER.md).
  *
- *     cite STYLE.csl ITEMS.json CITATIONS.json [LOCALE.xml..]
+ *     cite STYLE.csl ITEMS CITATIONS.json [LOCALE.xml..]
  *
  * What is odd in the files is told on standard error; so is why there is no answer, where the exit
  * status is that of gamhilon.h, and 1 where reading or writing fails. Built at the root of the
@@ -16,21 +16,20 @@
 enum { IO_FAILED = 1, BAD_COMMAND_LINE = 64 };
 
 static const char usage[] =
-    "usage: cite STYLE.csl ITEMS.json CITATIONS.json [LOCALE.xml..]\n"
+    "usage: cite STYLE.csl ITEMS CITATIONS.json [LOCALE.xml..]\n"
     "\n"
     "Writes citations and the list of what they cite as JSON (docs/ANSWER.md), by a style of\n"
-    "CSL 1.0.2 that stands for itself. ITEMS.json is CSL-JSON, and CITATIONS.json a list of\n"
-    "citations, which are lists of cites: [[{\"id\": \"doe99\", \"locator\": \"4\"}]]. American\n"
-    "English needs no locale file.\n";
+    "CSL 1.0.2 that stands for itself. ITEMS is CSL-JSON, BibTeX, BibLaTeX or RIS, and\n"
+    "CITATIONS.json a list of citations, which are lists of cites:\n"
+    "[[{\"id\": \"doe99\", \"locator\": \"4\"}]]. American English needs no locale file.\n";
 
 typedef struct {
     char *bytes;
     size_t length, capacity;
 } text;
 
-typedef uint32_t call(const uint8_t *, size_t, const uint8_t *, size_t, const uint8_t *, size_t,
-                      const uint8_t *, size_t, const uint8_t *, size_t, uint8_t *, size_t,
-                      size_t *);
+typedef uint32_t call(gamhilon_text, gamhilon_text, gamhilon_text, gamhilon_text, gamhilon_text,
+                      uint8_t *, size_t, size_t *);
 
 /* Adds bytes to a text; where there is no memory for them, the process ends. */
 static void add(text *to, const char *bytes, size_t length) {
@@ -85,19 +84,24 @@ static text list_of(char **paths, int count) {
     return list;
 }
 
+/* A text as the library takes it. */
+static gamhilon_text given(const text *own) {
+    gamhilon_text given = {(const uint8_t *)own->bytes, own->length};
+    return given;
+}
+
 /* What a call puts into a buffer that is mostly large enough at once, and its status. */
 static uint32_t called(call *f, const text *style, const text *locales, const text *items,
                        const text *citations, text *out) {
     uint32_t status;
+    gamhilon_text none = {NULL, 0};
     size_t needed = 8 * (items->length + citations->length) + (1 << 16);
     do {
         free(out->bytes);
         out->capacity = needed;
         out->bytes = malloc(needed);
         if (out->bytes == NULL) return GAMHILON_OUT_OF_MEMORY;
-        status = f((const uint8_t *)style->bytes, style->length, (const uint8_t *)locales->bytes,
-                   locales->length, (const uint8_t *)items->bytes, items->length,
-                   (const uint8_t *)citations->bytes, citations->length, NULL, 0,
+        status = f(given(style), given(locales), given(items), given(citations), none,
                    (uint8_t *)out->bytes, out->capacity, &needed);
     } while (status == GAMHILON_BUFFER_TOO_SMALL);
     out->length = needed;

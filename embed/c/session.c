@@ -1,7 +1,8 @@
 /* session: writes what changes from one state of a document to the next, a JSON object a line.
  *
- *     session STYLE.csl ITEMS.json CITATIONS.json..
+ *     session STYLE.csl ITEMS CITATIONS.json..
  *
+ * ITEMS is CSL-JSON, BibTeX, BibLaTeX or RIS.
  * Each file of citations is the whole list of the document's citations after an edit. Why there is
  * no answer is told on standard error; the exit status is then that of gamhilon.h, and 1 where
  * reading or writing fails. Built at the root of the repository by
@@ -14,11 +15,6 @@
 /* Where reading or writing fails; where the words make no command. */
 enum { IO_FAILED = 1, BAD_COMMAND_LINE = 64 };
 
-typedef struct {
-    uint8_t *bytes;
-    size_t length;
-} text;
-
 typedef uint32_t asking(gamhilon_session *, uint8_t *, size_t, size_t *);
 
 /* Where there is no memory, the process ends. */
@@ -29,14 +25,15 @@ static uint8_t *allocated(size_t length) {
 }
 
 /* The bytes of a file; where it can't be read, the process ends. */
-static text read_file(const char *path) {
-    text all = {NULL, 0};
+static gamhilon_text read_file(const char *path) {
+    gamhilon_text all = {NULL, 0};
     FILE *file = fopen(path, "rb");
     long length = -1;
     if (file != NULL && fseek(file, 0, SEEK_END) == 0) length = ftell(file);
     if (length >= 0 && fseek(file, 0, SEEK_SET) == 0) {
-        all.bytes = allocated((size_t)length + 1);
-        all.length = fread(all.bytes, 1, (size_t)length, file);
+        uint8_t *bytes = allocated((size_t)length + 1);
+        all.length = fread(bytes, 1, (size_t)length, file);
+        all.bytes = bytes;
     }
     if (length < 0 || all.length != (size_t)length) {
         perror(path);
@@ -45,6 +42,8 @@ static text read_file(const char *path) {
     fclose(file);
     return all;
 }
+
+static void free_text(gamhilon_text text) { free((void *)text.bytes); }
 
 /* Writes a text of the session on a line. An answer that doesn't fit is kept for the next call. */
 static uint32_t show(FILE *stream, asking *ask, gamhilon_session *session) {
@@ -66,19 +65,17 @@ static uint32_t show(FILE *stream, asking *ask, gamhilon_session *session) {
 
 int main(int argc, char **argv) {
     if (argc < 3) {
-        fputs("usage: session STYLE.csl ITEMS.json CITATIONS.json..\n", stderr);
+        fputs("usage: session STYLE.csl ITEMS CITATIONS.json..\n", stderr);
         return BAD_COMMAND_LINE;
     }
-    text style = read_file(argv[1]), items = read_file(argv[2]);
+    gamhilon_text style = read_file(argv[1]), items = read_file(argv[2]), none = {NULL, 0};
     gamhilon_session session = GAMHILON_NO_SESSION;
-    uint32_t status =
-        gamhilon_session_open(&session, style.bytes, style.length, NULL, 0, NULL, 0);
-    if (status == GAMHILON_OK)
-        status = gamhilon_session_put_items(&session, items.bytes, items.length);
+    uint32_t status = gamhilon_session_open(&session, style, none, none);
+    if (status == GAMHILON_OK) status = gamhilon_session_put_items(&session, items);
     for (int i = 3; i < argc && status == GAMHILON_OK; i++) {
-        text citations = read_file(argv[i]);
-        status = gamhilon_session_set_citations(&session, citations.bytes, citations.length);
-        free(citations.bytes);
+        gamhilon_text citations = read_file(argv[i]);
+        status = gamhilon_session_set_citations(&session, citations);
+        free_text(citations);
         if (status == GAMHILON_OK) status = show(stdout, gamhilon_session_answer, &session);
     }
     if (status != GAMHILON_OK) {
@@ -87,7 +84,7 @@ int main(int argc, char **argv) {
         show(stderr, gamhilon_session_error, &session);
     }
     gamhilon_session_close(&session);
-    free(style.bytes), free(items.bytes);
+    free_text(style), free_text(items);
     if (fflush(stdout) != 0) return IO_FAILED;
     return (int)status;
 }

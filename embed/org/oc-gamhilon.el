@@ -1,7 +1,7 @@
 ;;; oc-gamhilon.el --- Citations of Org in any style, by Gamhilon -*- lexical-binding: t; -*-
 
 ;; SPDX-License-Identifier: MIT OR Apache-2.0
-;; Version: 0.2.0
+;; Version: 0.3.0
 ;; Package-Requires: ((emacs "28.1") (org "9.5"))
 ;; Keywords: bib, wp
 

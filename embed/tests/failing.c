@@ -1,6 +1,6 @@
 /* failing FILE.., failing --texts FOLDER..: each allocation of a call refused in turn, and each refused with all that come after
  * it; of a document both texts, the fault, the place of a ring, the limits, and a driven document and its fault; of the texts in a
- * folder the answer, and what is wrong and odd. Linked with --wrap=malloc,--wrap=realloc,--wrap=free. It fails too where there is
+ * folder the answer, what is wrong and odd, and the items. Linked with --wrap=malloc,--wrap=realloc,--wrap=free. It fails too where there is
  * no file, or a call without an allocation. */
 #include "texts.h"
 
@@ -41,11 +41,11 @@ void __wrap_free(void *p) {
     __real_free(p);
 }
 
-enum { BUFFER_LENGTH = 1 << 22, DOCUMENT_FORMS = 7, FORMS = 9 };
+enum { BUFFER_LENGTH = 1 << 22, DOCUMENT_FORMS = 7, FORMS = DOCUMENT_FORMS + TEXT_CALLS };
 
 static uint8_t document[BUFFER_LENGTH], buffer[BUFFER_LENGTH], answer[BUFFER_LENGTH];
 static size_t n;
-static text texts[TEXTS];
+static gamhilon_text texts[TEXTS];
 static gamhilon_ring_location ring;
 
 static uint32_t called(int form, uint8_t *into, size_t *length) {
@@ -58,7 +58,7 @@ static uint32_t called(int form, uint8_t *into, size_t *length) {
     if (form == 4) return gamhilon_check_limits(document, n, 100, 100000);
     if (form == 5) return gamhilon_drive(document, n, into, BUFFER_LENGTH, length);
     if (form == 6) return gamhilon_find_driven_fault(document, n, into, BUFFER_LENGTH, length);
-    return call_texts(form == 7 ? gamhilon_cite : gamhilon_find_cite_fault, texts, into, BUFFER_LENGTH, length);
+    return text_calls[form - DOCUMENT_FORMS](texts, into, BUFFER_LENGTH, length);
 }
 
 /* Whether a call of which some allocation was refused is right: refused itself, or the answer all the same. */

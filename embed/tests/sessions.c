@@ -112,32 +112,31 @@ static void note(record *all, asking *ask, gamhilon_session *session) {
         (all)->length += (size_t)snprintf((char *)(all)->bytes + (all)->length, 64, "%u 0\n", (unsigned)status);               \
     } while (0)
 
-#define BYTES(literal) (const uint8_t *)(literal), sizeof(literal) - 1
+#define TEXT(literal) ((gamhilon_text){(const uint8_t *)(literal), sizeof(literal) - 1})
 
 /* A document is edited. */
-static void edited(record *all, const text *texts) {
+static void edited(record *all, const gamhilon_text *texts) {
     gamhilon_session session = GAMHILON_NO_SESSION;
-    text style = texts[0], locales = texts[1], items = texts[2], citations = texts[3], options = texts[4];
-    EDIT(all, gamhilon_session_put_items(&session, items.bytes, items.length));
+    gamhilon_text none = {NULL, 0}, style = texts[0], locales = texts[1], items = texts[2], citations = texts[3], options = texts[4];
+    EDIT(all, gamhilon_session_put_items(&session, items));
     note(all, gamhilon_session_answer, &session);
     gamhilon_session_close(&session);
-    EDIT(all, gamhilon_session_open(&session, BYTES("<style/>"), NULL, 0, NULL, 0));
-    EDIT(all, gamhilon_session_set_citations(&session, citations.bytes, citations.length));
+    EDIT(all, gamhilon_session_open(&session, TEXT("<style/>"), none, none));
+    EDIT(all, gamhilon_session_set_citations(&session, citations));
     note(all, gamhilon_session_error, &session);
-    EDIT(all, gamhilon_session_open(&session, style.bytes, style.length, locales.bytes, locales.length, options.bytes,
-                                    options.length));
-    EDIT(all, gamhilon_session_put_items(&session, items.bytes, items.length));
-    EDIT(all, gamhilon_session_set_citations(&session, citations.bytes, citations.length));
+    EDIT(all, gamhilon_session_open(&session, style, locales, options));
+    EDIT(all, gamhilon_session_put_items(&session, items));
+    EDIT(all, gamhilon_session_set_citations(&session, citations));
     note(all, gamhilon_session_answer, &session);
     note(all, gamhilon_session_answer, &session);
-    EDIT(all, gamhilon_session_set_citations(&session, BYTES("[{\"citationID\": \"z\", \"citationItems\": [{\"id\": \"no\"}]}]")));
+    EDIT(all, gamhilon_session_set_citations(&session, TEXT("[{\"citationID\": \"z\", \"citationItems\": [{\"id\": \"no\"}]}]")));
     note(all, gamhilon_session_answer, &session);
     note(all, gamhilon_session_error, &session);
-    EDIT(all, gamhilon_session_set_citations(&session, BYTES("[]")));
-    EDIT(all, gamhilon_session_remove_items(&session, BYTES("[\"no\"]")));
+    EDIT(all, gamhilon_session_set_citations(&session, TEXT("[]")));
+    EDIT(all, gamhilon_session_remove_items(&session, TEXT("[\"no\"]")));
     note(all, gamhilon_session_answer, &session);
-    EDIT(all, gamhilon_session_set_style(&session, style.bytes, style.length, locales.bytes, locales.length, NULL, 0));
-    EDIT(all, gamhilon_session_set_citations(&session, citations.bytes, citations.length));
+    EDIT(all, gamhilon_session_set_style(&session, style, locales, none));
+    EDIT(all, gamhilon_session_set_citations(&session, citations));
     note(all, gamhilon_session_whole, &session);
     note(all, gamhilon_session_warnings, &session);
     gamhilon_session_close(&session);
@@ -150,7 +149,7 @@ static int is_same(const record *one, const record *other) {
 }
 
 /* Each allocation refused in turn; gives how many were. */
-static long refused_in_turn(const record *whole, const text *texts, int in_a_row) {
+static long refused_in_turn(const record *whole, const gamhilon_text *texts, int in_a_row) {
     static record tried_record;
     long count = 0;
     for (long k = 0;; k++) {
@@ -166,7 +165,7 @@ static long refused_in_turn(const record *whole, const text *texts, int in_a_row
     }
 }
 
-static text given[TEXTS];
+static gamhilon_text given[TEXTS];
 static record whole_record;
 
 static void *in_a_thread(void *own) {

@@ -1,17 +1,17 @@
 /* stack FILE.., stack --texts FOLDER..: how much stack the deepest call takes: of both forms of a document, of the fault, of the
- * place of a ring, of the limits, and of a driven document and its fault; or of the texts in a folder, and of what is wrong in
- * them. That is the mark that it leaves in a stack that was filled before. Writes a line for each form: the bytes and the
+ * place of a ring, of the limits, and of a driven document and its fault; or of the texts in a folder, of what is wrong in them,
+ * and of their items. That is the mark that it leaves in a stack that was filled before. Writes a line for each form: the bytes and the
  * document. */
 #include "texts.h"
 
 #include <pthread.h>
 #include <string.h>
 
-enum { STACK = 4 << 20, BUFFER_LENGTH = 1 << 22, DOCUMENT_FORMS = 7, FORMS = 9 };
+enum { STACK = 4 << 20, BUFFER_LENGTH = 1 << 22, DOCUMENT_FORMS = 7, FORMS = DOCUMENT_FORMS + TEXT_CALLS };
 
 static uint8_t document[BUFFER_LENGTH], buffer[BUFFER_LENGTH], *stack;
 static size_t n;
-static text texts[TEXTS];
+static gamhilon_text texts[TEXTS];
 static int form;
 
 static void *worker(void *unused) {
@@ -24,7 +24,7 @@ static void *worker(void *unused) {
     else if (form == 4) gamhilon_check_limits(document, n, 100, 100000);
     else if (form == 5) gamhilon_drive(document, n, buffer, BUFFER_LENGTH, &length);
     else if (form == 6) gamhilon_find_driven_fault(document, n, buffer, BUFFER_LENGTH, &length);
-    else call_texts(form == 7 ? gamhilon_cite : gamhilon_find_cite_fault, texts, buffer, BUFFER_LENGTH, &length);
+    else text_calls[form - DOCUMENT_FORMS](texts, buffer, BUFFER_LENGTH, &length);
     return unused;
 }
 
@@ -49,7 +49,8 @@ static void read_document(const char *path) {
 }
 
 int main(int argc, char **argv) {
-    static const char *const forms[FORMS] = {"text", "json", "fault", "ring", "limits", "drive", "drive_fault", "cite", "cite_fault"};
+    static const char *const forms[FORMS] = {"text", "json", "fault", "ring", "limits", "drive", "drive_fault", "cite", "cite_fault",
+                                              "references"};
     size_t most[FORMS] = {0};
     int of[FORMS] = {0}, of_texts = argc > 1 && strcmp(argv[1], "--texts") == 0;
     int first = of_texts ? DOCUMENT_FORMS : 0, end = of_texts ? FORMS : DOCUMENT_FORMS;

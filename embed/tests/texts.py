@@ -89,6 +89,18 @@ CITED = ['Jane Doe, “On ‘Order’ Now,” 4.', 'Roe, “A Reply”; Jane Doe
 
 ROE = [{'id': 'a'}]
 
+# References in other forms, and as they are in CSL-JSON.
+BIB = ('@book{a, author = {Roe, R. and van Doe, J.}, title = {A {Reply}}, date = {2001-02},\n'
+       '    langid = {ngerman}, volumi = {x}}\n'
+       '@book{b')
+RIS = 'TY  - BOOK\nAU  - Roe, R.\nTI  - A Reply\nPY  - 2001\nXX  - x\nID  - a\nER  - \n'
+BIB_ITEM = {'id': 'a', 'type': 'book', 'title': 'A Reply', 'language': 'de-DE',
+            'author': [{'family': 'Roe', 'given': 'R.'},
+                       {'dropping-particle': 'van', 'family': 'Doe', 'given': 'J.'}],
+            'issued': {'date-parts': [[2001, 2]]}}
+RIS_ITEM = {'id': 'a', 'type': 'book', 'title': 'A Reply',
+            'author': [{'family': 'Roe', 'given': 'R.'}], 'issued': {'date-parts': [[2001]]}}
+
 # Name, files, the texts of the citations, their notes, the bibliography, and the warnings.
 ANSWERED = [
     ('two notes', texts(), CITED, [1, 7], TWO, []),
@@ -105,6 +117,13 @@ ANSWERED = [
     ('two locales of a language', texts(citations=[ROE], locales=[ENGLISH, ENGLISH]),
      ['Roe, “A Reply”.'], [1], listed(REPLY),
      [remark('locales/1', 'a locale before it is of the same language, so it is left out')]),
+    ('items of RIS', texts(items=RIS, citations=[ROE]),
+     ['R. Roe, “A Reply.”'], [1], listed(REPLY),
+     [remark('items', 'CSL has no place for it', entry='a', field='XX')]),
+    ('items of a form that is named, behind a remark',
+     texts(items='A remark.\n@book{a, author={Roe, R.}, title={A {Reply}}}', citations=[ROE],
+           options={'from': 'bibtex'}),
+     ['R. Roe, “A Reply.”'], [1], listed(REPLY), []),
     ('limits', texts(citations=[ROE], options={'limits': {'steps': 100, 'bytes': 1000}}),
      ['Roe, “A Reply.”'], [1], listed(REPLY), []),
     ('odd texts', texts(STYLE.replace('<citation>', '<citation size="3">'),
@@ -138,12 +157,21 @@ REFUSED = [
     ('an unknown option', texts(options={'a/b': 1}), remark('options', 'unknown key; ', '/a~1b')),
     ('a language that is no text', texts(options={'locale': None}),
      remark('options', 'wanted a language', '/locale')),
+    ('entries that are no truth value', texts(options={'entries': 'all'}),
+     remark('options', 'wanted true', '/entries')),
     ('a nocite that is no truth value', texts(options={'nocite': 1}),
      remark('options', 'wanted true', '/nocite')),
     ('an unknown form', texts(options={'form': 'pdf'}),
      remark('options', 'wanted `text`', '/form')),
     ('a form that is no text', texts(options={'form': ['text']}),
      remark('options', 'wanted `text`', '/form')),
+    ('a form of items that there is not', texts(options={'from': 'csv'}),
+     remark('options', 'wanted `csl-json`', '/from')),
+    ('items in another form than the one that is named', texts(items=RIS,
+                                                               options={'from': 'csl-json'}),
+     remark('items', 'no JSON', line=1, column=1)),
+    ('items of RIS that are no UTF-8', texts(items=RIS.encode() + b'\xff'),
+     remark('items', f'no UTF-8 from byte {len(RIS)}')),
     ('limits that are no object', texts(options={'limits': 7}),
      remark('options', 'wanted an object of `steps`', '/limits')),
     ('a limit below 0', texts(options={'limits': {'steps': -1}}),
@@ -206,11 +234,42 @@ EXCEEDED = [
      None),
 ]
 
+# Name, files, and the items with what was lost of them.
+REFERENCES = [
+    ('BibLaTeX', texts(items=BIB),
+     {'items': [BIB_ITEM, {'id': 'b', 'type': 'book'}],
+      'warnings': [remark('items', 'no comma behind a field, and no end: the rest of the entry is '
+                          'left out', line=3, column=8),
+                   remark('items', 'CSL has no place for it', entry='a', field='volumi')]}),
+    ('RIS', texts(items=RIS),
+     {'items': [RIS_ITEM],
+      'warnings': [remark('items', 'CSL has no place for it', entry='a', field='XX')]}),
+    ('CSL-JSON', texts(items=ITEMS), {'items': ITEMS, 'warnings': []}),
+    ('CSL-JSON in an object', texts(items={'items': [{**ITEMS[1], 'titel': 'x'}]}),
+     {'items': [{**ITEMS[1], 'titel': 'x'}],
+      'warnings': [remark('items', 'unknown key, left out; is it `title`?', '/items/0/titel')]}),
+    ('a language of entries that say none',
+     texts(items='@book{a, title={A Long Reply}}', options={'from': 'bibtex', 'locale': 'de-DE'}),
+     {'items': [{'id': 'a', 'type': 'book', 'title': 'A Long Reply'}], 'warnings': []}),
+    ('American English, where none is named', texts(items='@book{a, title={A Long Reply}}'),
+     {'items': [{'id': 'a', 'type': 'book', 'title': 'A long reply'}], 'warnings': []}),
+    ('the entries of BibLaTeX, as they stand',
+     texts(items='@Book{a, Title = {A {Long}  Reply}}', options={'entries': True}),
+     {'entries': [{'fields': {'title': 'A {Long} Reply'}, 'key': 'a', 'type': 'book'}],
+      'items': [{'id': 'a', 'type': 'book', 'title': 'A Long reply'}], 'warnings': []}),
+    ('no entries of CSL-JSON', texts(items=[], options={'entries': True}),
+     {'entries': [], 'items': [], 'warnings': []}),
+    ('no list', texts(items=5),
+     {'fault': remark('items', 'found a number, wanted a list of items, or an object that has one '
+                      'under `items`', ''), 'warnings': []}),
+]
+
 # Small texts, on which each growth of memory is refused in turn: the words that are built in take
 # thousands.
 SMALL = [texts(citations=[[{'id': 'b', 'locator': '4', 'size': 1}]], items=ITEMS[:1],
                locales=[ENGLISH], options={'nocite': True}),
-         texts(citations=[[{'id': 'd'}]], items=ITEMS[:1], locales=[ENGLISH]), texts(DEPENDENT)]
+         texts(citations=[[{'id': 'd'}]], items=ITEMS[:1], locales=[ENGLISH]), texts(DEPENDENT),
+         texts(citations=[ROE], items=BIB, locales=[ENGLISH])]
 
 # Style files whose elements and whose macros nest as deep as is read, and items that do.
 CALLED = [f'<text macro="m{it}" quotes="true" display="block"/>' for it in range(1, 998)] + [TITLE]

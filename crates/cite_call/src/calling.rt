@@ -67,8 +67,7 @@ pub fn find_fault(alloc: Global, texts: CallTexts<'_>) -> Result<String, CallErr
     let Ok(faults) = all_faults(alloc, texts, &fault) else {
         return Err(CallError::OutOfMemory);
     };
-    let TextReader { warnings, .. } = reader;
-    match print_findings(alloc, fault, faults, warnings) {
+    match print_findings(alloc, fault, &faults, &reader.warnings) {
         Ok(text) => Ok(text),
         Err(_) => Err(CallError::OutOfMemory),
     }

@@ -27,7 +27,7 @@ impl TextReader {
     pub(crate) fn document(&mut self, texts: CallTexts<'_>) -> Result<CallDocument, CallError> {
         let styling = self.styling(texts.style, texts.locales, texts.options)?;
         let is_draft = styling.options.is_draft;
-        let references = self.items(texts.items, is_draft)?;
+        let references = self.items(texts.items, &styling.options)?;
         let mut citations = if is_draft {
             let sorts = !styling.style.citation.sort.is_empty();
             self.drafted_citations(texts.citations, &references, sorts)?

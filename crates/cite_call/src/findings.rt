@@ -12,8 +12,8 @@ use std::alloc::{AllocError, Global};
 pub(crate) fn print_findings(
     alloc: Global,
     fault: Option<Fault>,
-    faults: Vec<Remark>,
-    warnings: Vec<Remark>,
+    faults: &[Remark],
+    warnings: &[Remark],
 ) -> Result<String, AllocError> {
     let mut members = Map::new(alloc);
     if let Some(fault) = fault {
@@ -21,15 +21,37 @@ pub(crate) fn print_findings(
         put(&mut members, alloc, "fault", value)?;
     }
     if !faults.is_empty() {
-        put(&mut members, alloc, "faults", remark_list(alloc, &faults)?)?;
+        put(&mut members, alloc, "faults", remark_list(alloc, faults)?)?;
     }
     put(
         &mut members,
         alloc,
         "warnings",
-        remark_list(alloc, &warnings)?,
+        remark_list(alloc, warnings)?,
     )?;
     Value::Object(members).to_string(alloc)
+}
+
+/// A JSON object with items, which are a list of CSL-JSON, with the list of entries, where that is
+/// asked for, and with the warnings.
+///
+/// # Errors
+///
+/// Where memory is refused.
+pub(crate) fn print_items(
+    alloc: Global,
+    items: &str,
+    entries: &Option<Value>,
+    warnings: &[Remark],
+) -> Result<String, AllocError> {
+    let items = items.trim();
+    let warnings = remark_list(alloc, warnings)?;
+    match entries {
+        Some(entries) => {
+            format!(in alloc; "{{\"items\":{items},\"entries\":{entries},\"warnings\":{warnings}}}")
+        }
+        None => format!(in alloc; "{{\"items\":{items},\"warnings\":{warnings}}}"),
+    }
 }
 
 /// A JSON object with the warnings of some texts, in the order of these, as `find_fault` has them.
@@ -89,20 +111,28 @@ fn remark_members(alloc: Global, remark: &Remark) -> Result<Map<String, Value>, 
     let message = remark.message.clone()?;
     put(&mut members, alloc, "file", Value::String(name))?;
     put(&mut members, alloc, "message", Value::String(message))?;
-    match &remark.place {
-        TextPlace::Whole => {}
+    put_place(alloc, &mut members, &remark.place)?;
+    Ok(members)
+}
+
+/// Adds where something is.
+fn put_place(
+    alloc: Global,
+    members: &mut Map<String, Value>,
+    place: &TextPlace,
+) -> Result<(), AllocError> {
+    match place {
+        TextPlace::Whole => Ok(()),
         TextPlace::Line { line, column } => {
-            put(&mut members, alloc, "line", Value::from(*line))?;
-            put(&mut members, alloc, "column", Value::from(*column))?;
+            put(members, alloc, "line", Value::from(*line))?;
+            put(members, alloc, "column", Value::from(*column))
         }
         TextPlace::Pointer(pointer) => {
-            put(
-                &mut members,
-                alloc,
-                "pointer",
-                Value::String(pointer.clone()?),
-            )?;
+            put(members, alloc, "pointer", Value::String(pointer.clone()?))
+        }
+        TextPlace::Field { entry, field } => {
+            put(members, alloc, "entry", Value::String(entry.clone()?))?;
+            put(members, alloc, "field", Value::String(field.clone()?))
         }
     }
-    Ok(members)
 }

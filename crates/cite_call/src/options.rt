@@ -8,6 +8,7 @@ use cite_limits::budget::USUAL_PART;
 use cite_limits::cost::Cost;
 use cite_walk::abbreviations::Abbreviations;
 use csl_json::fault::{Pointer, Step};
+use reference_files::form::ReferenceForm;
 use serde_json::Value;
 use std::alloc::{AllocError, Global};
 use write_forms::forms::Form;
@@ -27,6 +28,10 @@ pub struct CallOptions {
     pub form: Option<AnswerForm>,
     /// Whether the document is a draft, in which cites of items that aren't there are no fault.
     pub is_draft: bool,
+    /// The form of the items, where one is named.
+    pub from: Option<ReferenceForm>,
+    /// Whether `read_references` gives the entries of BibTeX, too.
+    pub shows_entries: bool,
 }
 
 /// The form of an answer.
@@ -36,6 +41,13 @@ pub enum AnswerForm {
     Json,
     /// Texts, each on a line of its own.
     Lines(Form),
+}
+
+impl CallOptions {
+    /// The form of these items: the one that is named, or else that of their beginning.
+    pub(crate) fn form_of(&self, items: &[u8]) -> ReferenceForm {
+        self.from.unwrap_or(ReferenceForm::of_bytes(items))
+    }
 }
 
 /// The options that a text has. An empty text has none.
@@ -51,6 +63,8 @@ pub(crate) fn options_of(alloc: Global, bytes: &[u8]) -> Result<CallOptions, Cal
         part: USUAL_PART,
         form: None,
         is_draft: false,
+        from: None,
+        shows_entries: false,
     };
     if bytes.is_empty() {
         return Ok(options);
@@ -84,17 +98,13 @@ fn set_option(
             Value::String(tag) => options.language = Some(tag.clone()?),
             _ => return Err(wrong_option(alloc, key, "wanted a language tag, which is a text")),
         },
-        "nocite" => match value {
-            Value::Bool(lists_all) => options.lists_all = *lists_all,
-            _ => return Err(wrong_option(alloc, key, "wanted true or false")),
-        },
+        "nocite" => options.lists_all = truth_in(alloc, key, value)?,
         "abbreviations" => options.abbreviations = Some(abbreviations_in(alloc, value)?),
         "limits" => options.part = part_in(alloc, value)?,
         "form" => options.form = Some(form_in(alloc, value)?),
-        "draft" => match value {
-            Value::Bool(is_draft) => options.is_draft = *is_draft,
-            _ => return Err(wrong_option(alloc, key, "wanted true or false")),
-        },
+        "draft" => options.is_draft = truth_in(alloc, key, value)?,
+        "entries" => options.shows_entries = truth_in(alloc, key, value)?,
+        "from" => options.from = Some(reference_form_in(alloc, value)?),
         _ => return Err(wrong_option(alloc, key, UNKNOWN_KEY)),
     }
     Ok(())
@@ -102,7 +112,15 @@ fn set_option(
 
 /// What is wrong with an unknown key.
 const UNKNOWN_KEY: &str = "unknown key; the options are `locale`, `nocite`, `abbreviations`, \
-    `limits`, `form` and `draft`";
+    `limits`, `form`, `draft`, `from` and `entries`";
+
+/// The truth value that the value of this option is.
+fn truth_in(alloc: Global, key: &str, value: &Value) -> Result<bool, CallError> {
+    match value {
+        Value::Bool(truth) => Ok(*truth),
+        _ => Err(wrong_option(alloc, key, "wanted true or false")),
+    }
+}
 
 /// The form that the value names.
 fn form_in(alloc: Global, value: &Value) -> Result<AnswerForm, CallError> {
@@ -119,6 +137,21 @@ fn form_in(alloc: Global, value: &Value) -> Result<AnswerForm, CallError> {
         _ => {
             let why = "wanted `text`, `html`, `markdown`, `latex` or `json`";
             Err(wrong_option(alloc, "form", why))
+        }
+    }
+}
+
+/// The form of references that the value names.
+fn reference_form_in(alloc: Global, value: &Value) -> Result<ReferenceForm, CallError> {
+    let name = match value {
+        Value::String(name) => name.as_str(),
+        _ => "",
+    };
+    match ReferenceForm::of_name(name) {
+        Some(form) => Ok(form),
+        None => {
+            let why = "wanted `csl-json`, `bibtex`, `biblatex` or `ris`";
+            Err(wrong_option(alloc, "from", why))
         }
     }
 }

@@ -12,6 +12,8 @@ pub enum TextPlace {
     /// At the part of its JSON to which this JSON Pointer (RFC 6901) leads; an empty one leads to
     /// the whole.
     Pointer(String),
+    /// In this field of the entry with this key.
+    Field { entry: String, field: String },
 }
 
 /// Something that is wrong or odd in a text.
@@ -52,6 +54,11 @@ impl fmt::Display for Remark {
                 f.write_char(' ')?;
                 f.write_str(pointer.as_str())?;
                 f.write_char(':')?;
+            }
+            TextPlace::Field { entry, field } => {
+                let entry = entry.as_str();
+                let field = field.as_str();
+                write!(f, " {entry}: {field}:")?;
             }
         }
         f.write_char(' ')?;

@@ -8,13 +8,14 @@ pub struct CallTexts<'t> {
     pub style: &'t [u8],
     /// A JSON list of the texts of locale files; an empty text stands for an empty list.
     pub locales: &'t [u8],
-    /// The items that may be cited, as CSL-JSON.
+    /// The items that may be cited: CSL-JSON, BibTeX, BibLaTeX or RIS.
     pub items: &'t [u8],
     /// A JSON list of citations, which are lists of cites.
     pub citations: &'t [u8],
     /// A JSON object of options; an empty text stands for an empty object. `locale` is a language
     /// tag, in place of the style's language; where `nocite` is true, all items are listed;
-    /// `abbreviations` has short forms of texts (docs/STYLE_FILES.md).
+    /// `abbreviations` has short forms of texts (docs/STYLE_FILES.md); `from` is the form of the
+    /// items, which else is that of their beginning.
     pub options: &'t [u8],
 }
 

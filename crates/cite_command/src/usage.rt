@@ -1,7 +1,7 @@
 //! What help says.
 
 /// The version of the program.
-pub(crate) const VERSION: &str = "0.2.0";
+pub(crate) const VERSION: &str = "0.3.0";
 
 /// What the program does.
 pub(crate) const ABOUT: &str = "Citations and bibliographies in styles of CSL 1.0.2";

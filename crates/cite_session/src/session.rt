@@ -66,17 +66,17 @@ impl Session {
         Ok(())
     }
 
-    /// Puts the items of CSL-JSON, which is a list, or an object with a list at `items`. Each is
-    /// new, or stands in place of the one with its id. One that was removed is put in the place
-    /// that it had. In a draft, an item with a fault is left out, with a warning.
+    /// Puts items of CSL-JSON, BibTeX, BibLaTeX or RIS (`TextReader::items`). Each is new, or
+    /// stands in place of the one with its id. One that was removed is put in the place that it
+    /// had. In a draft, an item with a fault is left out, with a warning.
     ///
     /// # Errors
     ///
     /// `Fault` where the text is none; `OutOfMemory`.
     pub fn put_items(&mut self, alloc: Global, items: &[u8]) -> Result<(), CallError> {
         let mut reader = TextReader::new(alloc);
-        let is_draft = self.style.styling.options.is_draft;
-        let items = reader.items(items, is_draft)?.into_vec();
+        let options = &self.style.styling.options;
+        let items = reader.items(items, options)?.into_vec();
         let ids = ids_of(alloc, &items)?;
         self.library.put(alloc, items, &ids)?;
         self.forget(&ids);

@@ -5,6 +5,7 @@
 #![tactic(auto)]
 
 mod buffer;
+mod given;
 mod ring;
 mod sessions;
 mod texts;
@@ -21,9 +22,11 @@ ghost use Rattle.gamhilon_c.specs.OfTexts.{HandsText, IsCiteStatus, IsFaultStatu
 ghost use Rattle.gamhilon_c.specs.Ring.{FindsRing};
 
 use crate::buffer::{ANSWERED, hand_out};
+use crate::given::GamhilonText;
 use crate::ring::{GamhilonRing, hand_out_ring};
 use crate::texts::hand_out_of_texts;
 use cite_call::calling::{cite, find_fault};
+use cite_call::references::read_references;
 use cite_call::texts::CallTexts;
 use cite_document::faults::print_fault_bytes;
 use cite_document::limits::check_limits;
@@ -144,11 +147,11 @@ pub extern "C" fn gamhilon_find_driven_fault(
 #[unsafe(no_mangle)]
 pub extern "C" fn gamhilon_cite(
     alloc: Global,
-    style: &[u8],
-    locales: &[u8],
-    items: &[u8],
-    citations: &[u8],
-    options: &[u8],
+    style: GamhilonText<'_>,
+    locales: GamhilonText<'_>,
+    items: GamhilonText<'_>,
+    citations: GamhilonText<'_>,
+    options: GamhilonText<'_>,
     buffer: &mut [u8],
     needed: &mut usize,
 ) -> u32
@@ -156,11 +159,11 @@ pub extern "C" fn gamhilon_cite(
     ensures status { IsCiteStatus result }
 {
     let texts = CallTexts {
-        style,
-        locales,
-        items,
-        citations,
-        options,
+        style: style.bytes(),
+        locales: locales.bytes(),
+        items: items.bytes(),
+        citations: citations.bytes(),
+        options: options.bytes(),
     };
     let text = cite(alloc, texts);
     hand_out_of_texts(&text, buffer, needed)
@@ -171,11 +174,11 @@ pub extern "C" fn gamhilon_cite(
 #[unsafe(no_mangle)]
 pub extern "C" fn gamhilon_find_cite_fault(
     alloc: Global,
-    style: &[u8],
-    locales: &[u8],
-    items: &[u8],
-    citations: &[u8],
-    options: &[u8],
+    style: GamhilonText<'_>,
+    locales: GamhilonText<'_>,
+    items: GamhilonText<'_>,
+    citations: GamhilonText<'_>,
+    options: GamhilonText<'_>,
     buffer: &mut [u8],
     needed: &mut usize,
 ) -> u32
@@ -183,12 +186,29 @@ pub extern "C" fn gamhilon_find_cite_fault(
     ensures status { IsFaultStatus result }
 {
     let texts = CallTexts {
-        style,
-        locales,
-        items,
-        citations,
-        options,
+        style: style.bytes(),
+        locales: locales.bytes(),
+        items: items.bytes(),
+        citations: citations.bytes(),
+        options: options.bytes(),
     };
     let text = find_fault(alloc, texts);
     hand_out_of_texts(&text, buffer, needed)
+}
+
+/// Puts the items of references as CSL-JSON, and what was lost of them, as JSON, into the buffer,
+/// and reports how many bytes that takes. Gives the status.
+#[unsafe(no_mangle)]
+pub extern "C" fn gamhilon_read_references(
+    alloc: Global,
+    references: GamhilonText<'_>,
+    options: GamhilonText<'_>,
+    buffer: &mut [u8],
+    needed: &mut usize,
+) -> u32
+    ensures text { HandsText result buffer.old buffer.new needed.new }
+    ensures status { IsFaultStatus result }
+{
+    let read = read_references(alloc, references.bytes(), options.bytes());
+    hand_out_of_texts(&read, buffer, needed)
 }

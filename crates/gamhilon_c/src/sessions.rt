@@ -3,6 +3,7 @@ ghost use Rattle.gamhilon_c.specs.OfSessions.{HandsOutOfSession, IsEditStatus, I
 ghost use Rattle.gamhilon_c.specs.OfTexts.{HandsText};
 
 use crate::buffer::{ANSWERED, BUFFER_TOO_SMALL, place};
+use crate::given::GamhilonText;
 use cite_session::texts::SessionTexts;
 use session_handle::asking::{Asked, Edit};
 use session_handle::error::SessionError;
@@ -14,16 +15,16 @@ use std::alloc::Global;
 pub extern "C" fn gamhilon_session_open(
     alloc: Global,
     session: &mut SessionHandle,
-    style: &[u8],
-    locales: &[u8],
-    options: &[u8],
+    style: GamhilonText<'_>,
+    locales: GamhilonText<'_>,
+    options: GamhilonText<'_>,
 ) -> u32
     ensures { IsEditStatus result }
 {
     let texts = SessionTexts {
-        style,
-        locales,
-        options,
+        style: style.bytes(),
+        locales: locales.bytes(),
+        options: options.bytes(),
     };
     edit(alloc, session, Edit::Open(texts))
 }
@@ -33,16 +34,16 @@ pub extern "C" fn gamhilon_session_open(
 pub extern "C" fn gamhilon_session_set_style(
     alloc: Global,
     session: &mut SessionHandle,
-    style: &[u8],
-    locales: &[u8],
-    options: &[u8],
+    style: GamhilonText<'_>,
+    locales: GamhilonText<'_>,
+    options: GamhilonText<'_>,
 ) -> u32
     ensures { IsEditStatus result }
 {
     let texts = SessionTexts {
-        style,
-        locales,
-        options,
+        style: style.bytes(),
+        locales: locales.bytes(),
+        options: options.bytes(),
     };
     edit(alloc, session, Edit::Style(texts))
 }
@@ -52,11 +53,11 @@ pub extern "C" fn gamhilon_session_set_style(
 pub extern "C" fn gamhilon_session_put_items(
     alloc: Global,
     session: &mut SessionHandle,
-    items: &[u8],
+    items: GamhilonText<'_>,
 ) -> u32
     ensures { IsEditStatus result }
 {
-    edit(alloc, session, Edit::Put(items))
+    edit(alloc, session, Edit::Put(items.bytes()))
 }
 
 /// Removes items from the session. Gives the status.
@@ -64,11 +65,11 @@ pub extern "C" fn gamhilon_session_put_items(
 pub extern "C" fn gamhilon_session_remove_items(
     alloc: Global,
     session: &mut SessionHandle,
-    ids: &[u8],
+    ids: GamhilonText<'_>,
 ) -> u32
     ensures { IsEditStatus result }
 {
-    edit(alloc, session, Edit::Remove(ids))
+    edit(alloc, session, Edit::Remove(ids.bytes()))
 }
 
 /// Puts citations in place of those of the session. Gives the status.
@@ -76,11 +77,11 @@ pub extern "C" fn gamhilon_session_remove_items(
 pub extern "C" fn gamhilon_session_set_citations(
     alloc: Global,
     session: &mut SessionHandle,
-    citations: &[u8],
+    citations: GamhilonText<'_>,
 ) -> u32
     ensures { IsEditStatus result }
 {
-    edit(alloc, session, Edit::Cite(citations))
+    edit(alloc, session, Edit::Cite(citations.bytes()))
 }
 
 /// Puts what changed since the last answer, as JSON, into the buffer, and reports how many bytes

@@ -51,8 +51,8 @@ def drives(built):
 @pytest.fixture
 def cites(built):
     """For tests of styles, which the shared library writes."""
-    if not hasattr(_library._loaded(), _library.CITE):
-        pytest.skip('the library is older than the call of style files (embed/build.py)')
+    if not hasattr(_library._loaded(), _library.READ):
+        pytest.skip('the library is older than texts as one value (embed/build.py)')
 
 
 @pytest.fixture(params=['model', 'library'])
@@ -83,9 +83,8 @@ def published():
 
 
 @pytest.fixture
-def pybtex():
-    """For tests that read .bib files."""
-    pytest.importorskip('pybtex', reason='there is no pybtex (Debian: python3-pybtex)')
+def reads(cites):
+    """For tests that read .bib files and RIS, which the shared library reads."""
 
 
 @pytest.fixture

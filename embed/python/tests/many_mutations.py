@@ -41,7 +41,7 @@ OURS = (gamhilon.Refused, FilterError, csl.StyleMissing, csl.StyleRefused, csl.C
         csl.EntriesRefused, references.ReferencesError, references.ReaderMissing)
 RECURSIONS = 20000  # (as the filter has them)
 STACK, WATCH = 64 * 1024 * 1024, 60
-READERS = {'CSL-JSON': None, 'BibLaTeX': 'pybtex', 'YAML': 'yaml'}
+READERS = {'CSL-JSON': None, 'BibLaTeX': None, 'YAML': 'yaml'}
 NAMES = {'CSL-JSON': 'csl-json', 'BibLaTeX': 'biblatex', 'YAML': 'hayagriva'}
 
 

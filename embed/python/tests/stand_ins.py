@@ -5,6 +5,8 @@ import json
 import os
 import sys
 
+from gamhilon import _library
+
 MODEL = os.path.normpath(f'{os.path.dirname(os.path.abspath(__file__))}/../../../tests/model')
 
 
@@ -100,17 +102,20 @@ class MadeUpStyle(MadeUpLibrary):
     """Stands in for a library that writes by style files: each cite is the author's family name,
     the title, and the locator, whatever the style says."""
 
-    def gamhilon_cite(self, style, style_length, locales, locales_length, items, items_length,
-                      citations, citations_length, options, options_length, *buffer):
-        works = {item['id']: item for item in json.loads(items)}
+    def gamhilon_cite(self, style, locales, items, citations, options, *buffer):
+        works = {item['id']: item for item in json.loads(items.bytes)}
         made = {'citations': [{'content': _citation(works, cites)}
-                              for cites in json.loads(citations)],
+                              for cites in json.loads(citations.bytes)],
                 'bibliography': {'items': [{'key': key, 'content': [_text(key)]} for key in works],
                                  'hanging_indent': True, 'line_spacing': 1, 'entry_spacing': 1}}
-        return self._put(json.dumps(made).encode(), 0, items, items_length, *buffer)
+        return self._put(json.dumps(made).encode(), 0, items.bytes, items.length, *buffer)
 
-    def gamhilon_find_cite_fault(self, style, style_length, *given):
-        return self._put(b'{"warnings":[]}', 0, style, style_length, *given[-3:])
+    def gamhilon_find_cite_fault(self, style, *given):
+        return self._put(b'{"warnings":[]}', 0, style.bytes, style.length, *given[-3:])
+
+    def gamhilon_read_references(self, *given):
+        """As the shared library reads them."""
+        return _library._loaded().gamhilon_read_references(*given)
 
 
 class FaultyStyle(MadeUpStyle):
@@ -122,16 +127,16 @@ class FaultyStyle(MadeUpStyle):
         self.mark = mark
 
     def gamhilon_cite(self, style, *given):
-        if self.mark.encode() in style:
+        if self.mark.encode() in style.bytes:
             return 2
         return super().gamhilon_cite(style, *given)
 
-    def gamhilon_find_cite_fault(self, style, style_length, *given):
-        text = style.decode()
+    def gamhilon_find_cite_fault(self, style, *given):
+        text = style.bytes.decode()
         found = {'warnings': [_at(text, 'odd here', 'it is odd')] if 'odd here' in text else []}
         if self.mark in text:
             found['fault'] = _at(text, self.mark, 'it is wrong')
-        return self._put(json.dumps(found).encode(), 0, style, style_length, *given[-3:])
+        return self._put(json.dumps(found).encode(), 0, style.bytes, style.length, *given[-3:])
 
 
 def _at(text, mark, message):
@@ -143,9 +148,8 @@ class NumberedStyle(MadeUpStyle):
     """Stands in for a library that writes by style files: works are numbered in the order in which
     they are cited, whatever the style says."""
 
-    def gamhilon_cite(self, style, style_length, locales, locales_length, items, items_length,
-                      citations, citations_length, options, options_length, *buffer):
-        asked = json.loads(citations)
+    def gamhilon_cite(self, style, locales, items, citations, options, *buffer):
+        asked = json.loads(citations.bytes)
         keys = list(dict.fromkeys(cite['id'] for cites in asked for cite in cites))
         numbers = {key: str(number) for number, key in enumerate(keys, 1)}
         made = {'citations': [{'content': _numbers(numbers, cites)} for cites in asked],
@@ -153,7 +157,7 @@ class NumberedStyle(MadeUpStyle):
                                             'content': [_text(key)]}
                                            for key, number in numbers.items()],
                                  'hanging_indent': False, 'line_spacing': 1, 'entry_spacing': 1}}
-        return self._put(json.dumps(made).encode(), 0, items, items_length, *buffer)
+        return self._put(json.dumps(made).encode(), 0, items.bytes, items.length, *buffer)
 
 
 def _numbers(numbers, cites):

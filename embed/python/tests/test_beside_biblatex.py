@@ -122,7 +122,7 @@ def test_what_biblatex_shows(tmp_path, style):
 
 
 @pytest.mark.parametrize('style', OURS)
-def test_what_this_package_shows(tmp_path, cites, pybtex, style):
+def test_what_this_package_shows(tmp_path, cites, reads, style):
     paper = Paper(tmp_path, rf'\usepackage[style={OURS[style]}]{{gamhilon}}')
     column = 1 + [*OURS].index(style)
     assert paper.shown(sys.executable, '-m', 'gamhilon', 'latex', 'paper') == (

@@ -47,7 +47,7 @@ os.umask(0o77)
 with open('out/gamhilon_build.json') as file:
     note = json.load(file)
 for name in sys.argv[1:]:
-    importlib.import_module(name).make('0.2.0', ['cc'], note)
+    importlib.import_module(name).make('0.3.0', ['cc'], note)
 '''
 PAGES = (('man/gamhilon.1', 'share/man/man1/gamhilon.1'),
          ('completions/gamhilon.bash', 'share/bash-completion/completions/gamhilon'),
@@ -112,7 +112,7 @@ def program_of_the_wheel():
     """The program in the wheel of out/, or None where it has none."""
     name, = [name for name in os.listdir('embed/out') if name.endswith('.whl')]
     with zipfile.ZipFile(f'embed/out/{name}') as archive:
-        place = 'gamhilon-0.2.0.data/scripts/gamhilon'
+        place = 'gamhilon-0.3.0.data/scripts/gamhilon'
         return archive.read(place) if place in archive.namelist() else None
 
 
@@ -130,7 +130,7 @@ def test_it_tells_what_it_does_and_how_far_it_is(tree, monkeypatch, capfd):
     assert re.fullmatch('build.py: 0 min [0-9]+ s: 1 of 2 libraries stand', told[-1])
     assert lines[-3:-1] == ['build.py: linking crates/gamhilon_c/out/libgamhilon_c.a',
                             'build.py: built embed/out/libgamhilon.a and libgamhilon.so']
-    assert lines[-1].startswith('build.py: built embed/out/gamhilon-0.2.0-py3-none-')
+    assert lines[-1].startswith('build.py: built embed/out/gamhilon-0.3.0-py3-none-')
     assert sorted(name for name in os.listdir('embed/out') if not name.endswith('.whl')) == [
         'gamhilon.h', 'gamhilon.pc', 'gamhilon_build.json', 'libgamhilon.a', 'libgamhilon.so',
         'libgamhilon.so.0']
@@ -157,7 +157,7 @@ def test_the_wheel_alone_is_made_of_what_was_built(tree, tmp_path, monkeypatch, 
     told = capfd.readouterr().out.splitlines()
     assert told[2:-1] == ['gamhilon_wheel: left out: the program gamhilon, which is not built; the '
                           'wheel installs no command of this name']
-    assert told[-1].startswith('build.py: built embed/out/gamhilon-0.2.0-py3-none-')
+    assert told[-1].startswith('build.py: built embed/out/gamhilon-0.3.0-py3-none-')
     assert program_of_the_wheel() is None and not os.path.exists('crates/gamhilon/out')
     shutil.rmtree('crates')
     os.makedirs('crates/gamhilon/out')
@@ -187,7 +187,7 @@ def test_a_release_has_checksums_that_tell_what_proved_it(release):
     folder, out = release
     for place, count in ((folder, 22), (out, 3 if shutil.which('dpkg-deb') else 2)):
         about, *sums = (place / 'SHA256SUMS').read_text().splitlines()
-        assert re.fullmatch('# gamhilon 0.2.0; commit .*; toolchain kit-1', about)
+        assert re.fullmatch('# gamhilon 0.3.0; commit .*; toolchain kit-1', about)
         assert len(sums) == count
         subprocess.run(['sha256sum', '--check', '--strict', '--quiet', 'SHA256SUMS'], cwd=place,
                        check=True)
@@ -308,9 +308,9 @@ def dpkg_deb(*words):
 
 def test_a_package_tells_what_it_is_and_needs(package):
     path, folder, _ = package
-    assert path.name == 'gamhilon_0.2.0_amd64.deb'
+    assert path.name == 'gamhilon_0.3.0_amd64.deb'
     fields = dict(re.findall(r'^([A-Z][\w-]+): (.*)$', dpkg_deb('-f', str(path)), re.MULTILINE))
-    assert (fields['Package'], fields['Version'], fields['Architecture']) == ('gamhilon', '0.2.0',
+    assert (fields['Package'], fields['Version'], fields['Architecture']) == ('gamhilon', '0.3.0',
                                                                               'amd64')
     # (the programs stand in for those of the toolchain: of the C library)
     assert re.fullmatch(r'libc6 \(>= 2\.[0-9]+\)', fields['Depends'])
@@ -368,7 +368,7 @@ def test_a_package_is_made_anew_of_what_is_built(package):
     path.unlink()
     done = subprocess.run([sys.executable, 'build.py', '--deb'], cwd=out.parent, check=True,
                           capture_output=True, text=True)
-    assert done.stdout == 'build.py: built out/gamhilon_0.2.0_amd64.deb\n'
+    assert done.stdout == 'build.py: built out/gamhilon_0.3.0_amd64.deb\n'
     assert path.read_bytes() == first
     subprocess.run(['sha256sum', '--check', '--strict', '--quiet', 'SHA256SUMS'], cwd=out,
                    check=True)

@@ -30,12 +30,16 @@ class MadeUpTexts(MadeUpLibrary):
 
     def gamhilon_cite(self, *given):
         *texts, buffer, buffer_length, length = given
-        self.texts.append(texts[::2])
-        assert [len(text) for text in texts[::2]] == texts[1::2]
+        self.texts.append([text.bytes for text in texts])
+        assert [len(text.bytes) for text in texts] == [text.length for text in texts]
         return self._put(self.text, self.status, b'', 0, buffer, buffer_length, length)
 
     def gamhilon_find_cite_fault(self, *given):
         return self._put(self.findings, 0, b'', 0, *given[-3:])
+
+    def gamhilon_read_references(self, references, options, *buffer):
+        self.texts.append([references.bytes, options.bytes])
+        return self._put(self.text, self.status, b'', 0, *buffer)
 
 
 @pytest.fixture
@@ -148,9 +152,34 @@ def test_each_status_has_its_error(made_up_texts, status, kind):
 
 
 def test_a_library_that_is_older_than_the_call_is_told(made_up):
-    made_up()
+    functions = made_up()
     with pytest.raises(gamhilon.LibraryMissing, match='gamhilon_cite'):
         gamhilon.cite(STYLE, ITEMS, [])
+    functions.gamhilon_cite = functions.gamhilon_render_text
+    with pytest.raises(gamhilon.LibraryMissing, match='gamhilon_read_references'):
+        gamhilon.cite(STYLE, ITEMS, [])
+
+
+def test_references_are_handed_to_the_library_with_their_form_and_language(made_up_texts):
+    said = {'items': [{'id': 'a', 'title': 'Ä'}],
+            'warnings': [{'file': 'items', 'message': 'no entry', 'line': 2, 'column': 3},
+                         {'file': 'items', 'message': 'no place', 'entry': 'a', 'field': 'x'}]}
+    functions = made_up_texts({}, text=json.dumps(said).encode())
+    read = gamhilon.references.loads('@book{ä', form='bibtex', lang='de')
+    assert functions.texts[0][0] == '@book{ä'.encode()
+    assert json.loads(functions.texts[0][1]) == {'from': 'bibtex', 'locale': 'de'}
+    assert read.items == said['items'] and read.problems == ['line 2, column 3: no entry']
+    assert list(map(str, read.losses)) == ['a: x: no place']
+
+
+@pytest.mark.parametrize('place, message', [
+    ({}, 'it is wrong'), ({'line': 1, 'column': 2}, 'line 1, column 2: it is wrong')])
+def test_references_that_the_library_refuses(made_up_texts, place, message):
+    fault = {'file': 'items', 'message': 'it is wrong', **place}
+    made_up_texts({}, text=json.dumps({'fault': fault, 'warnings': []}).encode())
+    with pytest.raises(gamhilon.references.ReferencesError) as told:
+        gamhilon.references.loads('@book{a}')
+    assert str(told.value) == message
 
 
 def test_items_that_nest_deeper_than_python_writes_are_refused(made_up_texts):
@@ -160,6 +189,14 @@ def test_items_that_nest_deeper_than_python_writes_are_refused(made_up_texts):
         items = [items]
     with pytest.raises(gamhilon.TextRefused, match='^items: a value that nests deeper'):
         gamhilon.cite(STYLE, items, [])
+
+
+def test_items_of_bibtex(cites):
+    items = '@book{a, title = {An {Order}}, volumi = {x}}'
+    answer = gamhilon.cite(STYLE, items, [[{'id': 'a'}]])
+    assert gamhilon.plain(answer.citations[0].content) == '(An Order)'
+    assert list(map(str, answer.warnings)) == ['items: a: volumi: CSL has no place for it']
+    assert (answer.warnings[0].entry, answer.warnings[0].field) == ('a', 'volumi')
 
 
 def test_citations_and_items(cites):

@@ -366,7 +366,7 @@ def test_the_status_of_check_is_that_of_the_file_that_is_worst_off(monkeypatch, 
     assert command_line.main(['check', str(tmp_path / 'w.json')]) == 2
 
 
-def test_references_are_checked(tmp_path, pybtex, capfd):
+def test_references_are_checked(tmp_path, reads, capfd):
     path = tmp_path / 'a.bib'
     path.write_text('@book{a, title = {A}, editorc = {X}, editorctype = {founder}}\n'
                     '@misc{b, title = {B')
@@ -375,8 +375,9 @@ def test_references_are_checked(tmp_path, pybtex, capfd):
     assert out.splitlines() == [f'{path}: 2 references', '  book: 1', '  document: 1']
     assert error.splitlines() == [
         f'gamhilon: {path}: warning: a: editorc: CSL has no place for more names of the kind '
-        'founder ("X")',
-        f'gamhilon: {path}: syntax error in line 2: premature end of file']
+        'founder',
+        f'gamhilon: {path}: line 2, column 18: a value without an end: the rest of the entry is '
+        'left out']
 
 
 def test_unknown_fields_of_references_are_told_and_wrong_ones_refused(cites, tmp_path, capfd):
@@ -456,7 +457,7 @@ def test_of_references_of_one_id_the_last_counts(cites, files):
         f'gamhilon: {files}/more.json: warning: `one` replaces the item of a file before\n')
 
 
-def test_cite_takes_references_of_several_files_and_forms(cites, files, pybtex):
+def test_cite_takes_references_of_several_files_and_forms(cites, files, reads):
     (files / 'b.bib').write_text('@book{three, title={C}, author={Poe, E.}, year={1845}}')
     (files / 'three.json').write_text('[[{"id": "three"}], [{"id": "two"}]]')
     given = (files / 'three.json').read_bytes()

@@ -14,12 +14,9 @@ pytestmark = pytest.mark.usefixtures('yaml')
 class Asked(MadeUpStyle):
     """Stands in for the library, and keeps the style and the options of the last call."""
 
-    def gamhilon_cite(self, style, style_length, locales, locales_length, items, items_length,
-                      citations, citations_length, options, options_length, *buffer):
-        self.style, self.locale = style.decode(), json.loads(options)['locale']
-        return super().gamhilon_cite(style, style_length, locales, locales_length, items,
-                                     items_length, citations, citations_length, options,
-                                     options_length, *buffer)
+    def gamhilon_cite(self, style, locales, items, citations, options, *buffer):
+        self.style, self.locale = style.bytes.decode(), json.loads(options.bytes)['locale']
+        return super().gamhilon_cite(style, locales, items, citations, options, *buffer)
 
 
 @pytest.fixture

@@ -32,7 +32,7 @@ def reader(request):
     """Has a test be skipped where nothing reads references of a form."""
     def has(form):
         if form in ('BibLaTeX', 'YAML'):
-            request.getfixturevalue('pybtex' if form == 'BibLaTeX' else 'yaml')
+            request.getfixturevalue('reads' if form == 'BibLaTeX' else 'yaml')
     return has
 
 

@@ -134,7 +134,7 @@ def test_notes_have_the_numbers_that_they_will_have(written, monkeypatch):
     asked = []
     real = MadeUpStyle.gamhilon_cite
     monkeypatch.setattr(MadeUpStyle, 'gamhilon_cite', lambda self, *given: asked.append(
-        json.loads(given[6])) or real(self, *given))
+        json.loads(given[3].bytes)) or real(self, *given))
     first = [('text', 0, 'cite', 'doe99', '', ''), ('note', 1, 'cite', 'doe99', '', ''),
              ('text', 1, 'cite', 'doe99', '', '')]
     second = [('made', 0, 'cite', 'doe99', '', ''), ('note', 2, 'cite', 'doe99', '', ''),
@@ -148,7 +148,7 @@ def test_a_caption_that_is_typeset_twice_cites_once(written, monkeypatch):
     asked = []
     real = MadeUpStyle.gamhilon_cite
     monkeypatch.setattr(MadeUpStyle, 'gamhilon_cite', lambda self, *given: asked.append(
-        json.loads(given[6])) or real(self, *given))
+        json.loads(given[3].bytes)) or real(self, *given))
     shown = written(('float', 0, 'cite', 'doe99', '', ''), ('float', 0, 'cite', 'doe99', '', ''))
     assert shown == [('<Doe, On Order>', '')] * 2 and len(asked[0]) == 1
 

@@ -122,7 +122,7 @@ class Listening(MadeUpStyle):
         self.options = []
 
     def gamhilon_cite(self, *given):
-        self.options.append(json.loads(given[8]))
+        self.options.append(json.loads(given[4].bytes))
         return super().gamhilon_cite(*given)
 
 

@@ -48,7 +48,7 @@ def of_file(pandoc, tmp_path):
     return run
 
 
-def test_references_of_several_forms(of_file, tmp_path, pybtex, yaml):
+def test_references_of_several_forms(of_file, tmp_path, reads, yaml):
     knuth = '@book{knuth, author={Knuth, Donald}, title={The Art}, date={1968}}'
     rowling = 'harry: {type: Book, title: H, author: "Rowling, J. K.", date: 2003}'
     (tmp_path / 'a.bib').write_text(knuth)
@@ -98,14 +98,15 @@ def test_the_command_line_of_pandoc(tmp_path, monkeypatch, words, folders):
 
 
 def test_what_is_not_kept_of_files_is_told_where_the_style_would_have_shown_it(of_file, tmp_path,
-                                                                               pybtex):
+                                                                               reads):
     """Of what is cited or listed. What CSL has no place for no style would have shown."""
     entries = ['@book{a, title={A}, editorc={X}, editorctype={founder}, usera={x}, '
                'date={1999-13-01}, origdate={around then}}',
                '@book{b, title={B}, year={1999}}', '@book{c, title={C']
     (tmp_path / 'a.bib').write_text('\n'.join(entries))
     (tmp_path / 'own.csl').write_text(TITLES)
-    broken = 'a.bib: syntax error in line 3: premature end of file'
+    broken = ('a.bib: line 3, column 16: a value without an end: the rest of the entry is left '
+              'out')
 
     def not_kept(fields):
         return f'a.bib: not kept: {fields} (python3 -m gamhilon check a.bib tells more)'
@@ -117,7 +118,7 @@ def test_what_is_not_kept_of_files_is_told_where_the_style_would_have_shown_it(o
     assert told(of_file('bibliography: a.bib\ncsl: own.csl', '[@a; @b]')[1]) == [broken]
 
 
-def test_the_language_of_the_page_is_that_of_its_entries(of_file, tmp_path, pybtex):
+def test_the_language_of_the_page_is_that_of_its_entries(of_file, tmp_path, reads):
     (tmp_path / 'a.bib').write_text('@book{a, title={Die Welt}, author={Doe, J.}, date={1999}}')
     assert '1999. Die Welt.' in of_file('bibliography: a.bib\nlang: de-DE', '[@a]')[0]
     assert '1999. Die welt.' in of_file('bibliography: a.bib', '[@a]')[0]

@@ -45,14 +45,15 @@ def test_items_of_one_id_or_without_one_are_told():
 @pytest.mark.parametrize('name, text, form', [
     ('a.json', '[]', 'csl-json'), ('a.bib', '', 'biblatex'), ('a.BIB', '', 'biblatex'),
     ('a.bibtex', '', 'bibtex'), ('a.yml', '', 'hayagriva'), ('a.yaml', '', 'hayagriva'),
+    ('a.ris', '', 'ris'), ('a', '\nTY  - BOOK\n@ER  - ', 'ris'),
     ('a.txt', ' [{"id": "a"}]', 'csl-json'), ('a', '% Encoding: UTF-8\n @Book {a,}', 'biblatex'),
     ('a', 'doe:\n    type: Book\n', 'hayagriva'),
 ])
 def test_the_name_of_a_file_or_the_file_tells_its_form(tmp_path, monkeypatch, name, text, form):
     seen = []
-    for module, reader in (('biblatex', 'bibtex'), ('hayagriva', 'hayagriva')):
-        def note(text, is_biblatex=True, lang='', reader=reader):
-            seen.append(reader if reader == 'hayagriva' or not is_biblatex else 'biblatex')
+    for module in ('by_library', 'hayagriva'):
+        def note(text, form='hayagriva', lang=''):
+            seen.append(form)
             return [], [], []
         monkeypatch.setattr(getattr(references, module), 'items', note)
     (tmp_path / name).write_text(text)
@@ -89,24 +90,23 @@ def test_aliases_are_not_made_into_much(yaml):
 
 
 @pytest.mark.parametrize('text', ['', '\n', '# nothing\n'])
-def test_an_empty_file_has_no_items(yaml, pybtex, text):
+def test_an_empty_file_has_no_items(yaml, reads, text):
     for form in ('biblatex', 'bibtex', 'hayagriva'):
         assert references.loads(text, form=form) == references.References([], [], [])
 
 
 def test_an_unknown_form_is_an_error():
-    with pytest.raises(ValueError, match='csl-json, biblatex, bibtex, hayagriva'):
+    with pytest.raises(ValueError, match='csl-json, biblatex, bibtex, ris, hayagriva'):
         references.loads('', form='endnote')
 
 
-@pytest.mark.parametrize('module, form, name',
-                         [('pybtex', 'biblatex', 'python3-pybtex'),
-                          ('yaml', 'hayagriva', 'python3-yaml')])
-def test_what_reads_a_form_may_be_missing(module, form, name):
-    words = (f'import sys\nsys.modules["{module}"] = None\nfrom gamhilon import references\n'
+@pytest.mark.parametrize('form, name', [
+    ('biblatex', 'nofile.so'), ('ris', 'nofile.so'), ('hayagriva', 'python3-yaml')])
+def test_what_reads_a_form_may_be_missing(form, name):
+    words = ('import sys\nsys.modules["yaml"] = None\nfrom gamhilon import references\n'
              f'try: references.loads("a", form="{form}")\n'
              'except references.ReaderMissing as error: print(error)')
-    environment = {**os.environ, 'PYTHONPATH': SOURCE}
+    environment = {**os.environ, 'PYTHONPATH': SOURCE, 'GAMHILON_LIBRARY': 'nofile.so'}
     done = subprocess.run([sys.executable, '-c', words], env=environment, capture_output=True,
                           text=True)
     assert name in done.stdout, done.stderr
@@ -121,7 +121,7 @@ def test_a_file_that_is_not_there_is_an_error(tmp_path):
 
 @pytest.mark.parametrize('path, form',
                          [(WORKS, 'biblatex'), (WORKS, 'bibtex'), (LIBRARY, 'hayagriva')])
-def test_whatever_stands_in_a_file_ends_in_items_or_in_an_error_of_ours(pybtex, yaml, path, form):
+def test_whatever_stands_in_a_file_ends_in_items_or_in_an_error_of_ours(reads, yaml, path, form):
     with open(path, encoding='utf-8') as file:
         whole = file.read()
     random = Random(3)
@@ -283,7 +283,7 @@ def run(*words, given=None):
     return done.returncode, done.stdout.decode(), done.stderr.decode()
 
 
-def test_entries_of_several_files(tmp_path, pybtex):
+def test_entries_of_several_files(tmp_path, reads):
     text = '@book{doe, title = {A Title}, editorc = {X, Y}, editorctype = {founder}}'
     (tmp_path / 'a.bib').write_text(text)
     (tmp_path / 'b.json').write_text('[{"id": "doe"}, {"id": "roe", "title": "Ä"}]')
@@ -293,10 +293,10 @@ def test_entries_of_several_files(tmp_path, pybtex):
     assert error.splitlines() == [
         f'gamhilon: {tmp_path}/a.bib: `doe` replaces the item of a file before',
         f'gamhilon: {tmp_path}/a.bib: doe: editorc: CSL has no place for more names of the kind '
-        'founder ("X, Y")']
+        'founder']
 
 
-def test_entries_of_standard_input(pybtex, yaml):
+def test_entries_of_standard_input(reads, yaml):
     assert json.loads(run('-', given=b'[{"id": "a"}]')[1]) == [{'id': 'a'}]
     read = json.loads(run('-', given=b'@book{a, title = {T}}')[1])
     assert read == [{'id': 'a', 'type': 'book', 'title': 'T'}]
@@ -314,14 +314,15 @@ def test_entries_of_a_document(tmp_path):
                                   'gamhilon: page: entries have no such field (1: doe)']
 
 
-def test_a_file_in_which_something_is_no_entry_has_a_status(tmp_path, pybtex):
+def test_a_file_in_which_something_is_no_entry_has_a_status(tmp_path, reads):
     (tmp_path / 'a.bib').write_text('@book{a, title = {A}}\n@book{b, title = {B')
     status, out, error = run(str(tmp_path / 'a.bib'))
     assert status == 2 and [item['id'] for item in json.loads(out)] == ['a', 'b']
-    assert error == f'gamhilon: {tmp_path}/a.bib: syntax error in line 2: premature end of file\n'
+    assert error == (f'gamhilon: {tmp_path}/a.bib: line 2, column 18: a value without an end: the '
+                     'rest of the entry is left out\n')
 
 
-def test_the_language_of_entries(tmp_path, pybtex):
+def test_the_language_of_entries(tmp_path, reads):
     (tmp_path / 'a.bib').write_text('@book{a, title = {Die Welt}}')
     assert json.loads(run('--lang', 'de', str(tmp_path / 'a.bib'))[1])[0]['title'] == 'Die Welt'
 
@@ -344,7 +345,7 @@ def test_whether_a_style_would_have_shown_what_is_not_kept(field, reason, variab
     assert references.is_shown(loss, variables) == is_shown
 
 
-def test_each_field_that_is_known_is_that_of_a_variable(pybtex):
+def test_each_field_that_is_known_is_that_of_a_variable(reads):
     """Of those that become a variable of their own: what isn't kept of them is told where a style
     writes that."""
     with open(WORKS, encoding='utf-8') as file:

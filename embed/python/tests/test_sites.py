@@ -23,9 +23,9 @@ def place(tmp_path, monkeypatch):
     """A folder with references, and entry points as the wheel has them."""
     monkeypatch.setattr(_library, '_library', _library.Library(MadeUpStyle()))
     (tmp_path / 'refs.json').write_text(json.dumps(REFERENCES))
-    info = tmp_path / 'site' / 'gamhilon-0.2.0.dist-info'
+    info = tmp_path / 'site' / 'gamhilon-0.3.0.dist-info'
     info.mkdir(parents=True)
-    (info / 'METADATA').write_text('Metadata-Version: 2.1\nName: gamhilon\nVersion: 0.2.0\n')
+    (info / 'METADATA').write_text('Metadata-Version: 2.1\nName: gamhilon\nVersion: 0.3.0\n')
     (info / 'entry_points.txt').write_bytes(gamhilon_wheel.entry_points())
     monkeypatch.syspath_prepend(str(tmp_path / 'site'))
     monkeypatch.chdir(tmp_path)

@@ -477,7 +477,7 @@ def lists_of(project):
 
 
 @pytest.mark.parametrize('style', ['unsrt', 'plain'])
-def test_numbers_and_lists_are_those_of_sphinxcontrib_bibtex(tmp_path, cites, pybtex, style):
+def test_numbers_and_lists_are_those_of_sphinxcontrib_bibtex(tmp_path, cites, reads, style):
     """A project with a list of all pages and one of a page, as its tutorial has them."""
     pytest.importorskip('sphinxcontrib.bibtex', reason='there is no sphinxcontrib-bibtex '
                                                        '(Debian: python3-sphinxcontrib.bibtex)')
@@ -494,7 +494,7 @@ def test_numbers_and_lists_are_those_of_sphinxcontrib_bibtex(tmp_path, cites, py
     assert [len(works) for _, works in found[0].values()] == [4, 0, 2]
 
 
-def test_authors_and_years_of_a_style(tmp_path, cites, pybtex):
+def test_authors_and_years_of_a_style(tmp_path, cites, reads):
     """As the rules of the style say: `et al.` from three authors, and a suffix of the year."""
     project = Project(tmp_path)
     project.write('conf.py', 'extensions = ["gamhilon.sphinx"]\nbibtex_bibfiles = ["w.bib"]\n'

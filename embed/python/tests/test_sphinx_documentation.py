@@ -113,19 +113,19 @@ def compare(tmp_path, page, *more):
 
 
 @pytest.mark.parametrize('block', PAGES or ['.. bibliography::'], ids=name_of)
-def test_examples_of_pages(tmp_path, pybtex, writes, block):
+def test_examples_of_pages(tmp_path, reads, writes, block):
     compare(tmp_path, with_lists(block))
 
 
 @pytest.mark.parametrize('settings', SETTINGS or ["bibtex_default_style = 'unsrt'"], ids=name_of)
-def test_examples_of_settings(tmp_path, pybtex, writes, settings):
+def test_examples_of_settings(tmp_path, reads, writes, settings):
     if settings.startswith('bibtex_footbibliography_header'):
         settings = f"bibtex_bibliography_header = ''\n{settings}"
     compare(tmp_path, with_lists('See :cite:p:`1987:nelson` and :footcite:p:`2001:schechter`.'),
             settings)
 
 
-def test_the_example_of_myst(tmp_path, pybtex, writes):
+def test_the_example_of_myst(tmp_path, reads, writes):
     pytest.importorskip('myst_parser', reason='there is no MyST (Debian: python3-myst-parser)')
     block, = [block for block in examples('markdown') if '{cite:p}' in block]
     page = block.replace('```{bib', 'LIST 1\n\n```{bib', 1)

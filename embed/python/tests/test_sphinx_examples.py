@@ -160,14 +160,14 @@ def lists_of(project, pages):
 
 
 @pytest.mark.parametrize('name', PROJECTS)
-def test_lists_of_this_package(tmp_path, pybtex, writes, name):
+def test_lists_of_this_package(tmp_path, reads, writes, name):
     pages, wanted = PROJECTS[name]
     warned, project = built(tmp_path / 'project', 'gamhilon.sphinx', pages)
     assert (warned, lists_of(project, pages)) == ([], wanted)
 
 
 @pytest.mark.parametrize('name', PROJECTS)
-def test_lists_of_sphinxcontrib_bibtex(tmp_path, pybtex, name):
+def test_lists_of_sphinxcontrib_bibtex(tmp_path, reads, name):
     pytest.importorskip('sphinxcontrib.bibtex', reason='there is no sphinxcontrib-bibtex '
                                                        '(Debian: python3-sphinxcontrib.bibtex)')
     pages, wanted = PROJECTS[name]

@@ -79,9 +79,9 @@ def made_up_site(pages):
 @pytest.fixture
 def run(tmp_path):
     """Runs a site generator in a folder, where the entry points are those of the wheel."""
-    info = tmp_path / 'installed/gamhilon-0.2.0.dist-info'
+    info = tmp_path / 'installed/gamhilon-0.3.0.dist-info'
     info.mkdir(parents=True)
-    (info / 'METADATA').write_text('Metadata-Version: 2.1\nName: gamhilon\nVersion: 0.2.0\n')
+    (info / 'METADATA').write_text('Metadata-Version: 2.1\nName: gamhilon\nVersion: 0.3.0\n')
     (info / 'entry_points.txt').write_bytes(gamhilon_wheel.entry_points())
     (tmp_path / 'works.json').write_text(json.dumps(WORKS))
 

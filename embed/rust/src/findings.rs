@@ -1,6 +1,6 @@
 //! The JSON of faults and of findings, read.
 use crate::refusal::Fault;
-use crate::texts::{Findings, TextFault, TextPlace, TextRemark};
+use crate::texts::{Findings, ReadReferences, TextFault, TextPlace, TextRemark};
 
 /// What of JSON findings have.
 enum Value {
@@ -56,11 +56,47 @@ pub(crate) fn findings_of(json: &str) -> Option<Findings> {
         Some(fault) => Some(text_fault_of(fault)?),
         None => None,
     };
-    let warnings = match value.member("warnings")? {
-        Value::List(items) => items.iter().map(remark_of).collect::<Option<Vec<_>>>()?,
-        _ => return None,
+    Some(Findings { fault, warnings: warnings_of(&value)? })
+}
+
+/// What this JSON says of references: what was read, or what is wrong. Items, which are there where
+/// nothing is wrong, stand first.
+pub(crate) fn read_of(json: &str) -> Option<Result<ReadReferences, TextFault>> {
+    let Some(from_items) = json.strip_prefix("{\"items\":") else {
+        return Some(Err(findings_of(json)?.fault?));
     };
-    Some(Findings { fault, warnings })
+    let length = length_of_list(from_items)?;
+    let (items, rest) = from_items.split_at(length);
+    let warnings = warnings_of(&value_of(&format!("{{{}", rest.strip_prefix(',')?))?)?;
+    Some(Ok(ReadReferences { items: items.to_string(), warnings }))
+}
+
+/// The length of the list with which this JSON begins.
+fn length_of_list(json: &str) -> Option<usize> {
+    let (mut depth, mut is_text, mut is_escaped) = (0usize, false, false);
+    for (place, byte) in json.bytes().enumerate() {
+        match byte {
+            _ if is_escaped => is_escaped = false,
+            b'\\' if is_text => is_escaped = true,
+            b'"' => is_text = !is_text,
+            b'[' | b'{' if !is_text => depth += 1,
+            b']' | b'}' if !is_text => {
+                depth = depth.checked_sub(1)?;
+                if depth == 0 {
+                    return Some(place + 1);
+                }
+            }
+            _ => {}
+        }
+    }
+    None
+}
+
+fn warnings_of(value: &Value) -> Option<Vec<TextRemark>> {
+    match value.member("warnings")? {
+        Value::List(items) => items.iter().map(remark_of).collect(),
+        _ => None,
+    }
 }
 
 fn text_fault_of(value: &Value) -> Option<TextFault> {
@@ -72,12 +108,18 @@ fn text_fault_of(value: &Value) -> Option<TextFault> {
 }
 
 fn remark_of(value: &Value) -> Option<TextRemark> {
-    let place = match (value.number("line"), value.number("column"), value.text("pointer")) {
-        (Some(line), Some(column), _) => TextPlace::Line { line, column },
-        (_, _, Some(pointer)) => TextPlace::Pointer(pointer),
-        _ => TextPlace::Whole,
-    };
-    Some(TextRemark { file: value.text("file")?, place, message: value.text("message")? })
+    let file = value.text("file")?;
+    Some(TextRemark { file, place: place_of(value), message: value.text("message")? })
+}
+
+fn place_of(value: &Value) -> TextPlace {
+    if let (Some(line), Some(column)) = (value.number("line"), value.number("column")) {
+        return TextPlace::Line { line, column };
+    }
+    if let (Some(entry), Some(field)) = (value.text("entry"), value.text("field")) {
+        return TextPlace::Field { entry, field };
+    }
+    value.text("pointer").map_or(TextPlace::Whole, TextPlace::Pointer)
 }
 
 /// Reads compact JSON, as the library writes it.
@@ -211,6 +253,24 @@ mod tests {
         let first = remark("locales/0", TextPlace::Line { line: 1, column: 2 }, "ä");
         let second = remark("items", TextPlace::Pointer("/0/a".to_string()), "");
         assert_eq!(findings.warnings, [first, second]);
+    }
+
+    #[test]
+    fn what_the_library_says_of_references_is_read() {
+        let json = concat!(
+            "{\"items\":[\n  {\n    \"id\": \"a\\\"]\"\n  }\n],",
+            r#""warnings":[{"entry":"a","field":"series","file":"items","message":"lost"}]}"#
+        );
+        let read = read_of(json).expect("what was read").expect("items");
+        assert_eq!(read.items, "[\n  {\n    \"id\": \"a\\\"]\"\n  }\n]");
+        let [entry, field] = ["a", "series"].map(str::to_string);
+        assert_eq!(read.warnings, [remark("items", TextPlace::Field { entry, field }, "lost")]);
+        let wrong = r#"{"fault":{"file":"items","message":"no"},"warnings":[]}"#;
+        let fault = read_of(wrong).expect("what was read").unwrap_err();
+        assert_eq!(fault.remark, remark("items", TextPlace::Whole, "no"));
+        for json in ["", "{", "{}", "{\"items\":", "{\"items\":[}", "{\"items\":[]}"] {
+            assert_eq!(read_of(json), None, "{json}");
+        }
     }
 
     #[test]

@@ -8,9 +8,10 @@
 //! }
 //! ```
 //!
-//! `cite` writes citations by a style file, from texts. A `Session` keeps a document that is edited,
-//! and answers by what changed.
+//! `cite` writes citations by a style file, from texts, and `read_references` reads BibTeX,
+//! BibLaTeX and RIS. A `Session` keeps a document that is edited, and answers by what changed.
 mod findings;
+mod given;
 mod refusal;
 mod session;
 mod texts;
@@ -18,7 +19,8 @@ mod texts;
 pub use refusal::{Fault, Refusal, Ring};
 pub use session::{Session, SessionError, SessionTexts};
 pub use texts::{
-    cite, find_cite_fault, CiteError, Findings, TextFault, TextPlace, TextRemark, Texts,
+    cite, find_cite_fault, read_references, CiteError, Findings, ReadReferences, ReferencesError,
+    TextFault, TextPlace, TextRemark, Texts,
 };
 
 use refusal::status;

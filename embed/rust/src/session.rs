@@ -1,5 +1,6 @@
 //! Sessions: a document that is edited, answered by what changed.
 use crate::buffer_of;
+use crate::given::GivenText;
 use crate::refusal::{status, Refusal};
 use std::ffi::c_void;
 use std::fmt;
@@ -14,37 +15,26 @@ struct Held {
 
 type Ask = unsafe extern "C" fn(*mut Held, *mut u8, usize, *mut usize) -> u32;
 
-type Style =
-    unsafe extern "C" fn(*mut Held, *const u8, usize, *const u8, usize, *const u8, usize) -> u32;
+type Style = unsafe extern "C" fn(*mut Held, GivenText<'_>, GivenText<'_>, GivenText<'_>) -> u32;
 
-type Edit = unsafe extern "C" fn(*mut Held, *const u8, usize) -> u32;
+type Edit = unsafe extern "C" fn(*mut Held, GivenText<'_>) -> u32;
 
 extern "C" {
     fn gamhilon_session_open(
         session: *mut Held,
-        style: *const u8,
-        style_length: usize,
-        locales: *const u8,
-        locales_length: usize,
-        options: *const u8,
-        options_length: usize,
+        style: GivenText<'_>,
+        locales: GivenText<'_>,
+        options: GivenText<'_>,
     ) -> u32;
     fn gamhilon_session_set_style(
         session: *mut Held,
-        style: *const u8,
-        style_length: usize,
-        locales: *const u8,
-        locales_length: usize,
-        options: *const u8,
-        options_length: usize,
+        style: GivenText<'_>,
+        locales: GivenText<'_>,
+        options: GivenText<'_>,
     ) -> u32;
-    fn gamhilon_session_put_items(session: *mut Held, items: *const u8, length: usize) -> u32;
-    fn gamhilon_session_remove_items(session: *mut Held, ids: *const u8, length: usize) -> u32;
-    fn gamhilon_session_set_citations(
-        session: *mut Held,
-        citations: *const u8,
-        length: usize,
-    ) -> u32;
+    fn gamhilon_session_put_items(session: *mut Held, items: GivenText<'_>) -> u32;
+    fn gamhilon_session_remove_items(session: *mut Held, ids: GivenText<'_>) -> u32;
+    fn gamhilon_session_set_citations(session: *mut Held, citations: GivenText<'_>) -> u32;
     fn gamhilon_session_answer(
         session: *mut Held,
         buffer: *mut u8,
@@ -150,7 +140,8 @@ impl Session {
         self.styled(gamhilon_session_set_style, texts)
     }
 
-    /// Puts items of CSL-JSON: each is new, or stands in place of the one with its id.
+    /// Puts items, in any of the forms of `Texts`: each is new, or stands in place of the one with
+    /// its id.
     ///
     /// # Errors
     ///
@@ -205,20 +196,11 @@ impl Session {
     }
 
     fn styled(&mut self, call: Style, texts: &SessionTexts<'_>) -> Result<(), SessionError> {
-        let SessionTexts { style, locales, options } = texts;
+        let SessionTexts { style, locales, options } = *texts;
+        let [style, locales, options] = [style, locales, options].map(GivenText::of);
         let mut held = Held { held: self.held };
         // SAFETY: the session is its owner's, and slices are valid for their lengths.
-        let ended = unsafe {
-            call(
-                &mut held,
-                style.as_ptr(),
-                style.len(),
-                locales.as_ptr(),
-                locales.len(),
-                options.as_ptr(),
-                options.len(),
-            )
-        };
+        let ended = unsafe { call(&mut held, style, locales, options) };
         self.held = held.held;
         self.checked(ended)
     }
@@ -226,7 +208,7 @@ impl Session {
     fn edited(&mut self, call: Edit, text: &[u8]) -> Result<(), SessionError> {
         let mut held = Held { held: self.held };
         // SAFETY: the session is its owner's, and a slice is valid for its length.
-        let ended = unsafe { call(&mut held, text.as_ptr(), text.len()) };
+        let ended = unsafe { call(&mut held, GivenText::of(text)) };
         self.held = held.held;
         self.checked(ended)
     }

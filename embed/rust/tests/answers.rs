@@ -109,6 +109,24 @@ fn a_citation_is_written_by_a_style_file() -> Result<(), Box<dyn Error>> {
     Ok(())
 }
 
+const BIB: &[u8] = b"@book{doe99, author = {Doe}, title = {On Order}, year = 1999, volumi = {x}}";
+
+#[test]
+fn references_are_read_as_csl_json() -> Result<(), Box<dyn Error>> {
+    let read = gamhilon::read_references(BIB, b"")?;
+    assert!(read.items.contains("\"On order\""), "{}", read.items);
+    let warnings: Vec<String> = read.warnings.iter().map(ToString::to_string).collect();
+    assert_eq!(warnings, ["items: doe99: volumi: CSL has no place for it"]);
+    let given = gamhilon::Texts { items: BIB, ..texts(br#"[[{"id": "doe99"}]]"#) };
+    let json = gamhilon::cite(&given)?;
+    assert!(json.contains("Doe") && json.contains("1999"), "{json}");
+    assert_eq!(gamhilon::find_cite_fault(&given)?.warnings, read.warnings);
+    let error = gamhilon::read_references(BIB, br#"{"from": "csv"}"#).unwrap_err();
+    assert!(error.to_string().starts_with("options: /from: wanted"), "{error}");
+    assert!(gamhilon::read_references(b"5", b"").is_err());
+    Ok(())
+}
+
 #[test]
 fn a_text_that_is_wrong_has_its_place() {
     let error = gamhilon::cite(&texts(br#"[[{"id": "roe"}]]"#)).unwrap_err();

@@ -173,7 +173,7 @@ def _add_entries(commands: Any) -> None:
     entries = commands.add_parser('entries', help="references as CSL-JSON, and on standard error "
                                                   "what of them isn't kept")
     entries.add_argument('files', nargs='+', metavar='FILE',
-                         help="CSL-JSON, BibLaTeX, BibTeX or hayagriva's YAML; - for standard "
+                         help="CSL-JSON, BibLaTeX, BibTeX, RIS or hayagriva's YAML; - for standard "
                               'input')
     entries.add_argument('--from', dest='form', choices=references.FORMS,
                          help='the form of the files, where their names and what they begin with '
@@ -328,8 +328,8 @@ def entries_command(paths: Sequence[str], form: Optional[str], lang: str, to: st
 
 def _say_what_is_lost(path: str, told: references.References) -> None:
     for loss in told.losses:
-        shown = _faults.shown(loss.value)
-        say(f'{name_of(path)}: {loss.key}: {loss.field}: {loss.reason} ({shown})')
+        shown = '' if loss.value is None else f' ({_faults.shown(loss.value)})'
+        say(f'{name_of(path)}: {loss.key}: {loss.field}: {loss.reason}{shown}')
     for problem in told.problems:
         say(f'{name_of(path)}: {problem}')
 

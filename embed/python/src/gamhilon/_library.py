@@ -12,6 +12,7 @@ from typing import Any, Callable, List, NamedTuple, Optional, Tuple
 
 from . import _faults
 from ._library_session import LibrarySession, declare
+from ._library_text import TextStruct, given
 from ._limits import Limits
 from .errors import (DocumentRefused, LibraryFailed, LibraryMissing, MacroRing, NumberOverflow,
                      OutOfMemory, StyleLimitExceeded, TooDeep, TooManyElements)
@@ -23,6 +24,12 @@ FAULT_BUFFER = 4096
 # Calls that older libraries of the same name lack.
 DRIVE, DRIVE_FAULT = 'gamhilon_drive', 'gamhilon_find_driven_fault'
 CITE, CITE_FAULT = 'gamhilon_cite', 'gamhilon_find_cite_fault'
+READ = 'gamhilon_read_references'
+"""A library that has this call takes texts as one value."""
+
+
+OF_TEXTS = {CITE: 5, CITE_FAULT: 5, READ: 2}
+"""The calls that take texts, and how many."""
 
 
 class RingLocation(ctypes.Structure):
@@ -41,9 +48,9 @@ class CiteTexts(NamedTuple):
     citations: bytes
     options: bytes
 
-    def arguments(self) -> List[Any]:
-        """Each text and its length."""
-        return [argument for text in self for argument in (text, len(text))]
+    def arguments(self) -> List[TextStruct]:
+        """The texts as the call takes them."""
+        return [given(text) for text in self]
 
 
 class Library:
@@ -82,7 +89,7 @@ class Library:
         wrong: `find_cite_fault` tells the place."""
         if buffer_length is None:
             buffer_length = 8 * (len(texts.items) + len(texts.citations)) + 4096
-        function = self._newer(CITE)
+        function = self._of_texts(CITE)
         status, text = _filled(lambda *buffer: function(*texts.arguments(), *buffer), buffer_length)
         if status == DocumentRefused.status:
             raise DocumentRefused('a text of the document is wrong', '', 'a fault', 'none')
@@ -92,8 +99,18 @@ class Library:
 
     def find_cite_fault(self, texts: CiteTexts) -> bytes:
         """The JSON of what is wrong and odd in a document in a style file."""
-        function = self._newer(CITE_FAULT)
+        function = self._of_texts(CITE_FAULT)
         status, text = _filled(lambda *buffer: function(*texts.arguments(), *buffer), FAULT_BUFFER)
+        if status != OK:
+            raise self._refusal(status, b'')
+        return text
+
+    def read_references(self, references: bytes, options: bytes) -> bytes:
+        """The JSON of what is read of references in any form. Raises LibraryMissing where the
+        library is older than this call."""
+        function = self._newer(READ)
+        status, text = _filled(lambda *buffer: function(given(references), given(options), *buffer),
+                               2 * len(references) + FAULT_BUFFER)
         if status != OK:
             raise self._refusal(status, b'')
         return text
@@ -101,8 +118,8 @@ class Library:
     def session(self) -> LibrarySession:
         """A session, which isn't open yet. Raises LibraryMissing where the library is older than
         sessions."""
-        self._newer('gamhilon_session_open')
-        return LibrarySession(self._newer, _filled)
+        self._of_texts('gamhilon_session_open')
+        return LibrarySession(self._of_texts, _filled)
 
     def check(self, document: bytes) -> None:
         """Raises what `render` would raise, and gives nothing where there is an answer."""
@@ -139,6 +156,12 @@ class Library:
         except AttributeError as error:
             raise LibraryMissing(f'{NAME} is older than the call {name}: build it anew '
                                  'by embed/build.py') from error
+
+    def _of_texts(self, name: str) -> Any:
+        """A call that takes texts as one value, as it does unless the library is older."""
+        function = self._newer(name)
+        self._newer(READ)
+        return function
 
     def _ring(self, document: bytes) -> Tuple[int, RingLocation]:
         ring = RingLocation()
@@ -207,26 +230,28 @@ def _loaded() -> ctypes.CDLL:
         texts = [library.gamhilon_render_text, library.gamhilon_render_json,
                  library.gamhilon_find_fault]
         texts += [getattr(library, name) for name in (DRIVE, DRIVE_FAULT) if hasattr(library, name)]
-        cites = [getattr(library, name) for name in (CITE, CITE_FAULT) if hasattr(library, name)]
+        cites = [(getattr(library, name), count) for name, count in OF_TEXTS.items()
+                 if hasattr(library, READ)]
         rings, limits = [library.gamhilon_find_ring], [library.gamhilon_check_limits]
     except (OSError, AttributeError) as error:
         raise LibraryMissing(f'{error}: install the wheel of gamhilon, build {NAME} by '
                              'embed/build.py, or name it in the environment as '
                              'GAMHILON_LIBRARY') from error
-    given: List[Any] = [ctypes.c_char_p, ctypes.c_size_t]
+    document: List[Any] = [ctypes.c_char_p, ctypes.c_size_t]
     buffer: List[Any] = [ctypes.c_void_p, ctypes.c_size_t, ctypes.POINTER(ctypes.c_size_t)]
     for function in texts:
-        function.restype, function.argtypes = ctypes.c_uint32, [*given, *buffer]
-    for function in cites:
-        arguments = len(CiteTexts._fields) * given
-        function.restype, function.argtypes = ctypes.c_uint32, [*arguments, *buffer]
+        function.restype, function.argtypes = ctypes.c_uint32, [*document, *buffer]
+    for function, count in cites:
+        function.restype = ctypes.c_uint32
+        function.argtypes = [*count * [TextStruct], *buffer]
     for function in rings:
         function.restype = ctypes.c_uint32
-        function.argtypes = [*given, ctypes.POINTER(RingLocation)]
+        function.argtypes = [*document, ctypes.POINTER(RingLocation)]
     for function in limits:
         function.restype = ctypes.c_uint32
-        function.argtypes = [*given, ctypes.c_size_t, ctypes.c_size_t]
-    declare(library)
+        function.argtypes = [*document, ctypes.c_size_t, ctypes.c_size_t]
+    if hasattr(library, READ):
+        declare(library)
     return library
 
 

@@ -4,6 +4,7 @@ from __future__ import annotations
 import ctypes
 from typing import Any, Callable, Tuple
 
+from ._library_text import TextStruct, given
 from .errors import OutOfMemory
 
 OK, OUT_OF_MEMORY = 0, 5
@@ -41,8 +42,7 @@ class LibrarySession:
 
     def edit(self, name: str, *texts: bytes) -> None:
         """A call that changes the session. Raises SessionFault and OutOfMemory."""
-        arguments = [argument for text in texts for argument in (text, len(text))]
-        self._check(self._called(name, *arguments))
+        self._check(self._called(name, *map(given, texts)))
 
     def text(self, name: str) -> bytes:
         """A call that gives a text. Raises SessionFault and OutOfMemory."""
@@ -72,14 +72,11 @@ class LibrarySession:
 
 
 def declare(library: ctypes.CDLL) -> None:
-    """Says what the calls on sessions take, where the library has them."""
-    if not hasattr(library, 'gamhilon_session_open'):
-        return
+    """Says what the calls on sessions take."""
     session = ctypes.POINTER(SessionStruct)
-    given = [ctypes.c_char_p, ctypes.c_size_t]
     buffer = [ctypes.c_void_p, ctypes.c_size_t, ctypes.POINTER(ctypes.c_size_t)]
     for name, count in EDITS.items():
-        _declare(library, name, ctypes.c_uint32, [session, *count * given])
+        _declare(library, name, ctypes.c_uint32, [session, *count * [TextStruct]])
     for name in TEXTS:
         _declare(library, name, ctypes.c_uint32, [session, *buffer])
     _declare(library, 'close', None, [session])

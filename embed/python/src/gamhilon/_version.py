@@ -8,7 +8,7 @@ from typing import Optional
 
 from . import _library
 
-__version__ = '0.2.0'
+__version__ = '0.3.0'
 
 
 @dataclass(frozen=True)

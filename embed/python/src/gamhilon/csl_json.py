@@ -48,7 +48,8 @@ class CslJsonError(GamhilonError, ValueError):
 
 @dataclass(frozen=True)
 class Loss:
-    """What an item of CSL-JSON says and its entry doesn't, and why."""
+    """What an item of CSL-JSON says and its entry doesn't, and why. Of .bib files and RIS the value
+    is None."""
 
     key: str
     field: str
@@ -56,8 +57,10 @@ class Loss:
     reason: str
 
     def __str__(self) -> str:
-        value = json.dumps(self.value, ensure_ascii=False)
-        return f'{self.key}: {self.field}: {self.reason} ({value})'
+        said = f'{self.key}: {self.field}: {self.reason}'
+        if self.value is None:
+            return said
+        return f'{said} ({json.dumps(self.value, ensure_ascii=False)})'
 
 
 @dataclass(frozen=True)

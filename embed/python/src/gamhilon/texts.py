@@ -15,8 +15,8 @@ class TextWarning:
 
     `file` is the text: `style`, `locales`, `locales/0` for the first of the locale files, `items`,
     `citations` or `options`. The place in it is a line and a column, both from 1, or the JSON
-    Pointer (RFC 6901) to a part of its JSON; neither where the whole text is meant. `message` is
-    for people.
+    Pointer (RFC 6901) to a part of its JSON, or the `field` of an `entry` of BibTeX or RIS; none of
+    these where the whole text is meant. `message` is for people.
     """
 
     file: str
@@ -24,11 +24,15 @@ class TextWarning:
     pointer: Optional[str] = None
     line: Optional[int] = None
     column: Optional[int] = None
+    entry: Optional[str] = None
+    field: Optional[str] = None
 
     def __str__(self) -> str:
         place = f' {self.pointer}:' if self.pointer else ''
         if self.line is not None:
             place = f'{self.line}:{self.column}:'
+        if self.entry is not None:
+            place = f' {self.entry}: {self.field}:'
         return _faults.in_one_line(f'{self.file}:{place} {self.message}')
 
 

@@ -1,4 +1,4 @@
-"""References as people have them: CSL-JSON, BibTeX, BibLaTeX and hayagriva's YAML, each as
+"""References as people have them: CSL-JSON, BibTeX, BibLaTeX, RIS and hayagriva's YAML, each as
 CSL-JSON.
 
     from gamhilon import references
@@ -10,8 +10,7 @@ CSL-JSON.
     for warning in read.warnings:
         print(warning)
 
-BibTeX and BibLaTeX are read by pybtex (Debian's python3-pybtex), and YAML by PyYAML (python3-yaml);
-CSL-JSON needs neither.
+BibTeX, BibLaTeX and RIS are read by the library, and YAML by PyYAML (Debian's python3-yaml).
 """
 from __future__ import annotations
 
@@ -23,7 +22,7 @@ from typing import Any, Dict, List, Optional, Tuple, Union
 
 from .. import _console, _faults
 from ..csl_json import Loss
-from . import biblatex, hayagriva
+from . import by_library, hayagriva
 from .errors import ReaderMissing, ReferencesError
 from .shown import is_shown
 
@@ -38,13 +37,14 @@ Item = Dict[str, Any]
 PathLike = Union[str, 'os.PathLike[str]']
 """The path of a file."""
 
-FORMS = ('csl-json', 'biblatex', 'bibtex', 'hayagriva')
+FORMS = ('csl-json', *by_library.FORMS, 'hayagriva')
 
 _SUFFIXES = {
     '.json': 'csl-json', '.bib': 'biblatex', '.biblatex': 'biblatex', '.bibtex': 'bibtex',
-    '.yaml': 'hayagriva', '.yml': 'hayagriva',
+    '.ris': 'ris', '.yaml': 'hayagriva', '.yml': 'hayagriva',
 }
 _COMMAND = re.compile(r'^[ \t]*@[ \t]*[A-Za-z]+[ \t]*[{(]', re.MULTILINE)
+_RECORD = re.compile(r'\s*TY  -')
 _BYTE_ORDER_MARK = '\ufeff'
 
 
@@ -108,15 +108,18 @@ def loads(text: str, *, form: Optional[str] = None, lang: str = 'en-US') -> Refe
     elif form == 'hayagriva':
         items, losses, problems = hayagriva.items(text)
     else:
-        items, losses, problems = biblatex.items(text, form == 'biblatex', lang)
+        items, losses, problems = by_library.items(text, form, lang)
     return _each_once(items, losses, problems, form == 'csl-json')
 
 
 def form_of(text: str) -> str:
-    """The form of a text: CSL-JSON begins with a bracket, and lines of .bib files with an `@` and a
-    word."""
-    if text.lstrip(_BYTE_ORDER_MARK + ' \t\r\n')[:1] in ('[', '{'):
+    """The form of a text: CSL-JSON begins with a bracket, RIS with a type, and lines of .bib files
+    with an `@` and a word."""
+    text = text.lstrip(_BYTE_ORDER_MARK)
+    if text.lstrip(' \t\r\n')[:1] in ('[', '{'):
         return 'csl-json'
+    if _RECORD.match(text):
+        return 'ris'
     return 'biblatex' if _COMMAND.search(text) else 'hayagriva'
 
 

@@ -1,4 +1,4 @@
-"""Dates of ISO 8601 with extensions (EDTF), as .bib files and hayagriva have them, as dates of
+"""Dates of ISO 8601 with extensions (EDTF), as hayagriva and pages have them, as dates of
 CSL-JSON."""
 from __future__ import annotations
 
@@ -15,10 +15,6 @@ _UNSPECIFIED = re.compile(
     r'(?P<years>\d{2}(?:XX|\dX)|\d{4})(?:-(?P<month>XX|\d\d)(?:-(?P<day>XX|\d\d))?)?')
 _YEARS = re.compile(r'(\d{4})\s*(?:--?|\u2013)\s*(\d{4})')
 _CIRCA = re.compile(r'(?:c|ca|circa)\.?\s*(\d{4})')
-_MONTHS = (
-    'january', 'february', 'march', 'april', 'may', 'june', 'july', 'august', 'september',
-    'october', 'november', 'december',
-)
 _SEASONS = range(21, 25)
 _DAYS = (31, 29, 31, 30, 31, 30, 31, 31, 30, 31, 30, 31)
 _OPEN = ('', '..', 'open', 'unknown')
@@ -60,21 +56,6 @@ def csl_date(text: str) -> Tuple[CslDate, List[str]]:
     both = {'date-parts': [begin.parts, end.parts]}
     is_approximate = begin.is_approximate or end.is_approximate
     return {**both, 'circa': True} if is_approximate else both, [*begin.lost, *end.lost]
-
-
-def month_number(text: str) -> Optional[int]:
-    """The number of a month, or of a season as EDTF has it, that a number or an English name tells;
-    None of anything else."""
-    word = text.strip().rstrip('.').lower()
-    if word.isdecimal() and len(word) <= 2:
-        return int(word) or None
-    seasons = {'spring': 21, 'summer': 22, 'autumn': 23, 'fall': 23, 'winter': 24}
-    if word in seasons:
-        return seasons[word]
-    if len(word) < 3:
-        return None
-    named = [place + 1 for place, name in enumerate(_MONTHS) if name.startswith(word)]
-    return named[0] if len(named) == 1 else None
 
 
 def _of_point(point: _Point) -> CslDate:

@@ -3,7 +3,7 @@ from __future__ import annotations
 
 import re
 from itertools import groupby
-from typing import Iterable, List, NamedTuple, Sequence, Tuple
+from typing import Iterable, List, NamedTuple, Tuple
 
 Formats = Tuple[str, ...]
 """The formats of a run, the outermost first: `i`, `b`, `sc`, `sup` and `sub`."""
@@ -29,16 +29,6 @@ class Run(NamedTuple):
     is_protected: bool = False
 
 
-def plain(runs: Iterable[Run]) -> str:
-    """The text alone, with single spaces."""
-    return ''.join(run.text for run in with_single_spaces(runs))
-
-
-def csl_text(runs: Iterable[Run]) -> str:
-    """The text of a field of CSL-JSON, with its tags."""
-    return _with_tags([(run.text, run.formats) for run in with_single_spaces(runs)])
-
-
 def csl_title(runs: Iterable[Run]) -> str:
     """The text of a title in CSL-JSON. Words that a style may not change stand in a span of class
     `nocase`, if it could: the case rules of CSL leave alone what has a capital."""
@@ -53,17 +43,6 @@ def csl_title(runs: Iterable[Run]) -> str:
         parts += [(run.text, ('nocase', *run.formats) if is_kept else run.formats) for run in own]
         before = text[-1:]
     return _with_tags(parts)
-
-
-def before_colon(runs: Sequence[Run]) -> List[Run]:
-    """The runs up to the first colon; none where there is no colon."""
-    found: List[Run] = []
-    for run in runs:
-        head, colon, _ = run.text.partition(':')
-        found.append(run._replace(text=head))
-        if colon:
-            return found
-    return []
 
 
 def with_single_spaces(runs: Iterable[Run]) -> List[Run]:

@@ -5,13 +5,20 @@ from __future__ import annotations
 from typing import AbstractSet, Dict, Set
 
 from ..csl_json import Loss
-from . import bib_tables
 
 __all__ = ['is_shown']
 
 _NO_PLACE = 'CSL has no place for '
 _DATES = ('date', 'year', 'month', 'day', 'endyear', 'endmonth', 'endday')
 _TITLES = ('title', 'subtitle', 'titleaddon')
+
+_ROLES = {
+    'author': 'author', 'bookauthor': 'container-author', 'translator': 'translator',
+    'director': 'director', 'illustrator': 'illustrator', 'composer': 'composer',
+    'compiler': 'compiler', 'narrator': 'narrator', 'organizer': 'organizer',
+    'producer': 'producer', 'recipient': 'recipient', 'interviewer': 'interviewer',
+}
+"""The fields that hold names, but for editors, and the variables of CSL."""
 
 _FIELDS = {
     'title': 'issuetitle issuesubtitle issuetitleaddon',
@@ -57,7 +64,7 @@ def _variables_by_field() -> Dict[str, Set[str]]:
                                                   for title in _TITLES)
     for variable, prefix in _PREFIXES_OF_DATES.items():
         fields.setdefault(variable, set()).update(prefix + part for part in _DATES)
-    for name, variable in bib_tables.ROLES.items():
+    for name, variable in _ROLES.items():
         fields.setdefault(variable, set()).add(name)
     found: Dict[str, Set[str]] = {}
     for variable, names in fields.items():

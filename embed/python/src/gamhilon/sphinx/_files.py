@@ -7,7 +7,7 @@ from typing import Any, Dict, List
 
 from .. import references
 from ..csl_json import Loss
-from ..references import bib_entries
+from ..references import by_library
 
 __all__ = ['File', 'read']
 
@@ -42,10 +42,9 @@ def read(path: str, data: bytes, encoding: str) -> File:
 
 def _facts_of_bib(data: bytes) -> Dict[str, Dict[str, str]]:
     """What the entries of a .bib file say, by their types and fields there."""
-    entries, _ = bib_entries.parse(data.decode('utf-8-sig', 'replace'))
     found: Dict[str, Dict[str, str]] = {}
-    for entry in entries:
-        found.setdefault(entry.key, {**entry.fields, 'type': entry.type})
+    for entry in by_library.bib_entries(data.decode('utf-8-sig', 'replace')):
+        found.setdefault(entry['key'], {**entry['fields'], 'type': entry['type']})
     return found
 
 
