@@ -11,6 +11,7 @@ use csl_base::entry::PlainEntry;
 use csl_base::seq::Seq;
 use csl_base::text::Text;
 use csl_references::reference::{Reference, References};
+use kept_texts::versions::Version;
 use std::alloc::{AllocError, Global};
 use std::collections::{BTreeMap, BTreeSet};
 
@@ -21,7 +22,7 @@ pub(crate) struct Items<'d> {
     /// At the same places, what the driver knows of them.
     pub entries: Vec<PlainEntry>,
     /// At the same places, their versions (`KeptTexts`).
-    versions: Vec<usize>,
+    versions: Vec<Version>,
     /// The places, by the ids.
     places: BTreeMap<String, usize>,
 }
@@ -83,7 +84,7 @@ impl<'d> Items<'d> {
     }
 
     /// The version of the item at this place.
-    pub fn version(&self, place: usize) -> Option<usize> {
+    pub fn version(&self, place: usize) -> Option<Version> {
         self.versions.get(place).copied()
     }
 

@@ -6,12 +6,10 @@ use cite_limits::error::{LimitError, StylePlace};
 use cite_trees::trees::shown_of;
 use csl_writers::cite::Cite;
 use host_memo::table::copied;
+use kept_texts::kept::Kept;
+use kept_texts::versions::Version;
 use std::alloc::{AllocError, Global};
-use std::collections::BTreeMap;
 use std::mem::replace;
-
-/// For how many answers a text stays that none of them asks for.
-const ANSWERS: usize = 2;
 
 /// What was written of cites and of items, for answers in one style, in the words of one language,
 /// with the same short forms and limits.
@@ -20,26 +18,28 @@ const ANSWERS: usize = 2;
 /// item among this. What two answers in a row didn't ask for is dropped.
 #[derive(Drop)]
 pub struct KeptTexts {
-    /// The versions of the items, by their ids. No two items have had the same one.
-    versions: BTreeMap<String, usize>,
-    next_version: usize,
-    /// How many answers there were, and the one that is written.
-    answers: usize,
+    texts: Kept<TextState, KnownCite>,
     /// Whether the items of bibliographies are kept too.
     keeps_items: bool,
-    /// What was written of plain cites that are compared.
-    pub(crate) compared_cites: KnownCites<PlainCite>,
-    /// What was written of plain cites that are shown.
-    pub(crate) shown_cites: KnownCites<PlainCite>,
-    /// What was written of items.
-    pub(crate) items: KnownCites<ListedState>,
 }
 
-/// All that the text of an item in the bibliography depends on.
+/// All that a text depends on, with the version of its item.
+pub(crate) type TextKey = (Version, TextState);
+
+/// All that a text depends on beside its item.
+#[derive(PartialEq, Eq, PartialOrd, Ord, Drop)]
+pub(crate) enum TextState {
+    /// That of a plain cite that is compared.
+    Compared(PlainCite),
+    /// That of a plain cite that is shown.
+    Shown(PlainCite),
+    /// That of an item in the bibliography.
+    Listed(ListedState),
+}
+
+/// All that the text of an item in the bibliography depends on beside the item.
 #[derive(Clone, Copy, PartialEq, Eq, PartialOrd, Ord)]
 pub(crate) struct ListedState {
-    /// The version of the item.
-    pub item: usize,
     /// Its number, as it is printed.
     pub number: usize,
     pub disambiguates: bool,
@@ -59,30 +59,19 @@ impl KeptTexts {
 
     fn keeping(alloc: Global, keeps_items: bool) -> KeptTexts {
         KeptTexts {
-            versions: BTreeMap::new(alloc),
-            next_version: 0,
-            answers: 0,
+            texts: Kept::new(alloc),
             keeps_items,
-            compared_cites: KnownCites::new(alloc),
-            shown_cites: KnownCites::new(alloc),
-            items: KnownCites::new(alloc),
         }
     }
 
     /// The item with this id has changed or is gone: what was written of it isn't used again.
     pub fn forget(&mut self, id: &str) {
-        self.versions.remove(id);
+        self.texts.forget(id);
     }
 
     /// The version of the item with this id.
-    pub(crate) fn version(&mut self, id: &String) -> Result<usize, AllocError> {
-        if let Some(version) = self.versions.get(id.as_str()) {
-            return Ok(*version);
-        }
-        let version = self.next_version;
-        self.versions.insert(id.clone()?, version)?;
-        self.next_version = version.saturating_add(1);
-        Ok(version)
+    pub(crate) fn version(&mut self, id: &String) -> Result<Version, AllocError> {
+        self.texts.version(id)
     }
 
     /// All that is here; nothing is left.
@@ -93,55 +82,43 @@ impl KeptTexts {
 
     /// Another answer begins.
     pub(crate) fn begin_answer(&mut self) {
-        self.answers = self.answers.saturating_add(1);
-        self.compared_cites.begin_answer(self.answers);
-        self.shown_cites.begin_answer(self.answers);
-        self.items.begin_answer(self.answers);
+        self.texts.begin_answer();
     }
 
     /// Whether the items of bibliographies are kept.
     pub(crate) fn keeps_items(&self) -> bool {
         self.keeps_items
     }
-}
-
-/// What was written, by all that it depends on.
-#[derive(Drop)]
-pub(crate) struct KnownCites<K: Ord> {
-    known: BTreeMap<K, KnownCite>,
-    /// The answer that is written.
-    answer: usize,
-}
-
-impl<K: Ord + Drop> KnownCites<K> {
-    fn new(alloc: Global) -> KnownCites<K> {
-        KnownCites {
-            known: BTreeMap::new(alloc),
-            answer: 0,
-        }
-    }
-
-    /// The answer of this number begins: what none of those shortly before asked for is dropped.
-    fn begin_answer(&mut self, answer: usize) {
-        self.answer = answer;
-        self.known
-            .retain(|_, known| known.asked.saturating_add(ANSWERS) >= answer);
-    }
 
     /// What was written by this.
-    pub fn get(&mut self, key: &K) -> Option<&KnownCite> {
-        let known = self.known.get_mut(key)?;
-        known.asked = self.answer;
-        Some(&*known)
+    pub(crate) fn get(&mut self, key: &TextKey) -> Option<&KnownCite> {
+        self.texts.ask(key);
+        self.texts.get(key)
     }
 
     /// Keeps what was written by this, and gives a copy of it.
-    pub fn keep(&mut self, key: K, known: KnownCite) -> Result<Cite, AllocError> {
+    pub(crate) fn keep(&mut self, key: TextKey, known: KnownCite) -> Result<Cite, AllocError> {
         let cite = copied(&known.cite)?;
-        let mut known = known;
-        known.asked = self.answer;
-        self.known.insert(key, known)?;
+        self.texts.keep(key, known)?;
         Ok(cite)
+    }
+}
+
+impl TextState {
+    /// That of the same cite where it is compared.
+    pub fn compared(self) -> TextState {
+        match self {
+            TextState::Shown(plain) => TextState::Compared(plain),
+            other => other,
+        }
+    }
+
+    /// That of the same cite where it is shown.
+    pub fn shown(self) -> TextState {
+        match self {
+            TextState::Compared(plain) => TextState::Shown(plain),
+            other => other,
+        }
     }
 }
 
@@ -150,18 +127,12 @@ impl<K: Ord + Drop> KnownCites<K> {
 pub(crate) struct KnownCite {
     pub cite: Cite,
     pub cost: Cost,
-    /// The last answer that asked for it.
-    asked: usize,
 }
 
 impl KnownCite {
     /// A cite that was written at this cost.
     pub fn new(cite: Cite, cost: Cost) -> KnownCite {
-        KnownCite {
-            cite,
-            cost,
-            asked: 0,
-        }
+        KnownCite { cite, cost }
     }
 
     /// The same cite once more, at this place of the style.

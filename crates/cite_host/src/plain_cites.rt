@@ -3,14 +3,14 @@ use crate::writer::{Asked, TaskWriter};
 use cite_walk::cite::Repetition;
 use csl_lookup::means::Means;
 use csl_lookup::state::CollapseVerdict;
+use kept_texts::versions::Version;
 use std::alloc::AllocError;
 use style_file::style::StyleClass;
 
-/// All that the text of a cite depends on that has no locator, and stands apart from none.
+/// All that the text of a cite depends on beside its item, where it has no locator, and stands apart
+/// from none.
 #[derive(PartialEq, Eq, PartialOrd, Ord, Drop)]
 pub(crate) struct PlainCite {
-    /// The version of its item.
-    item: usize,
     /// The number of its item, as it is printed.
     number: usize,
     standing: CiteStanding,
@@ -31,8 +31,12 @@ struct CiteStanding {
 }
 
 impl<'s, 'i, 'd> TaskWriter<'s, 'i, 'd> {
-    /// All that the text of a cite depends on; none where it has a locator, or stands apart.
-    pub(crate) fn plain_cite(&self, asked: Asked<'_>) -> Result<Option<PlainCite>, AllocError> {
+    /// All that the text of a cite depends on, with the version of its item; none where it has a
+    /// locator, or stands apart.
+    pub(crate) fn plain_cite(
+        &self,
+        asked: Asked<'_>,
+    ) -> Result<Option<(Version, PlainCite)>, AllocError> {
         if let Some(cite) = self.shown_cite(asked) {
             if cite.locator.is_some() || cite.apart().is_some() {
                 return Ok(None);
@@ -42,15 +46,15 @@ impl<'s, 'i, 'd> TaskWriter<'s, 'i, 'd> {
         else {
             return Ok(None);
         };
-        Ok(Some(PlainCite {
-            item,
+        let plain = PlainCite {
             number: facts.number,
             standing: self.asked_standing(asked),
             repetition: facts.repetition,
             means: asked.standing.means.clone()?,
             verdict: asked.verdict,
             begins_note: self.begins_note(asked),
-        }))
+        };
+        Ok(Some((item, plain)))
     }
 
     fn asked_standing(&self, asked: Asked<'_>) -> CiteStanding {

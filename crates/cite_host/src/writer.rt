@@ -1,7 +1,6 @@
 //! What the driver asks for is written.
 use crate::entries::Items;
-use crate::kept::{KeptTexts, KnownCite, ListedState};
-use crate::plain_cites::PlainCite;
+use crate::kept::{KeptTexts, KnownCite, ListedState, TextKey, TextState};
 use crate::programs::BibliographyProgram;
 use crate::setting::Setting;
 use crate::sorting::SortedCitation;
@@ -101,13 +100,13 @@ impl<'s, 'i, 'd> TaskWriter<'s, 'i, 'd> {
 
     /// Writes a cite; a plain one that was written alike isn't written again.
     fn write_cite(&mut self, asked: Asked<'_>) -> Result<driver::Cite, LimitError> {
-        let Some(plain) = self.plain_cite(asked)? else {
+        let Some((item, plain)) = self.plain_cite(asked)? else {
             return Ok(self.write_anew(asked)?.cite);
         };
         if asked.shown.is_some() {
-            self.write_shown(asked, plain)
+            self.write_shown(asked, (item, TextState::Shown(plain)))
         } else {
-            self.write_compared(asked, plain)
+            self.write_compared(asked, (item, TextState::Compared(plain)))
         }
     }
 
@@ -115,30 +114,33 @@ impl<'s, 'i, 'd> TaskWriter<'s, 'i, 'd> {
     fn write_compared(
         &mut self,
         asked: Asked<'_>,
-        plain: PlainCite,
+        compared: TextKey,
     ) -> Result<driver::Cite, LimitError> {
-        if let Some(known) = self.kept.compared_cites.get(&plain) {
+        if let Some(known) = self.kept.get(&compared) {
             return known.copied(self.setting.budget, StylePlace::Citation);
         }
         let known = self.write_anew(asked)?;
-        Ok(self.kept.compared_cites.keep(plain, known)?)
+        Ok(self.kept.keep(compared, known)?)
     }
 
     /// Writes a plain cite that is shown, by what was compared of it, if that was written.
     fn write_shown(
         &mut self,
         asked: Asked<'_>,
-        plain: PlainCite,
+        shown: TextKey,
     ) -> Result<driver::Cite, LimitError> {
         let budget = self.setting.budget;
-        if let Some(known) = self.kept.shown_cites.get(&plain) {
+        if let Some(known) = self.kept.get(&shown) {
             return known.copied(budget, StylePlace::Citation);
         }
-        let known = match self.kept.compared_cites.get(&plain) {
+        let (item, state) = shown;
+        let compared = (item, state.compared());
+        let known = match self.kept.get(&compared) {
             Some(known) => known.shown(self.alloc, budget)?,
             None => self.write_anew(asked)?,
         };
-        Ok(self.kept.shown_cites.keep(plain, known)?)
+        let (_, state) = compared;
+        Ok(self.kept.keep((item, state.shown()), known)?)
     }
 
     /// Writes a cite by the layout, with the words that stand around it.
@@ -206,27 +208,27 @@ impl<'s, 'i, 'd> TaskWriter<'s, 'i, 'd> {
         let Some(facts) = self.item_facts(item, standing) else {
             return Ok(nothing(self.alloc));
         };
-        let Some(state) = self.listed_state(item, &facts) else {
+        let Some(listed) = self.listed_key(item, &facts) else {
             return Ok(self.write_item_anew(facts)?.cite);
         };
-        if let Some(known) = self.kept.items.get(&state) {
+        if let Some(known) = self.kept.get(&listed) {
             return known.copied(self.setting.budget, StylePlace::Bibliography);
         }
         let known = self.write_item_anew(facts)?;
-        Ok(self.kept.items.keep(state, known)?)
+        Ok(self.kept.keep(listed, known)?)
     }
 
     /// All that the text of an item depends on, where items are kept.
-    fn listed_state(&self, item: usize, facts: &CiteFacts<'_>) -> Option<ListedState> {
+    fn listed_key(&self, item: usize, facts: &CiteFacts<'_>) -> Option<TextKey> {
         if !self.kept.keeps_items() {
             return None;
         }
-        Some(ListedState {
-            item: self.items.version(item)?,
+        let state = ListedState {
             number: facts.number,
             disambiguates: facts.disambiguates,
             year_suffix: facts.year_suffix,
-        })
+        };
+        Some((self.items.version(item)?, TextState::Listed(state)))
     }
 
     /// Writes an item of the bibliography, with the affixes of its layout.
