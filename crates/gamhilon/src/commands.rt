@@ -24,9 +24,13 @@ use cite_limits::cost::Cost;
 use cite_locale::chain::LocaleChain;
 use cite_walk::abbreviations::Abbreviations;
 use csl_references::reference::References;
+use reference_files::form::{ReferenceForm, form_of};
 use std::alloc::{AllocError, Global};
 use std::rt::Files;
 use style_file::style::CslStyle;
+
+/// What a file of references is that is named as one of citations.
+const REFERENCES: &str = "these are references, not citations: name them by `--references`";
 
 /// What of an answer is printed.
 #[derive(Clone, Copy, PartialEq, Eq)]
@@ -223,6 +227,9 @@ pub(crate) fn citations_in(
     match read_citations(alloc, bytes) {
         Ok(read) => Ok(read),
         Err(CitationsError::OutOfMemory) => Err(CommandError::OutOfMemory),
+        Err(_) if form_of(None, path, bytes) != ReferenceForm::Json => {
+            Err(refused(alloc, path, &REFERENCES)?)
+        }
         Err(error) => Err(json_refused(alloc, path, bytes, &error)?),
     }
 }

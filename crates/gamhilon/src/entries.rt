@@ -46,7 +46,8 @@ pub(crate) fn entries(
     Ok(())
 }
 
-/// The CSL-JSON of a file in another form, whose faults are printed; none of a file of CSL-JSON.
+/// The CSL-JSON of a file in another form, whose faults are printed, and those of its entries whose
+/// key another one has; none of a file of CSL-JSON.
 ///
 /// # Errors
 ///
@@ -58,7 +59,10 @@ pub(crate) fn converted(
     bytes: &[u8],
 ) -> Result<Option<String>, CommandError> {
     match items_of(rt, path, form_of(from, path, bytes), bytes)? {
-        Some(read) => Ok(Some(json_of(rt.alloc(), &read.items)?)),
+        Some(read) => {
+            show_repeated_keys(rt, path, &read)?;
+            Ok(Some(json_of(rt.alloc(), &read.items)?))
+        }
         None => Ok(None),
     }
 }
@@ -84,6 +88,9 @@ fn items_of(
     let read = read_file(rt.alloc(), form, text, LANGUAGE)?;
     if let Some(read) = &read {
         show_faults(rt, path, &read.faults);
+        if lacks_entries(read, text) {
+            show_warning(rt, path, &"there is no entry in it")?;
+        }
     }
     Ok(read)
 }
@@ -98,6 +105,11 @@ fn show_faults(rt: &(impl Eprint + AllocGlobal), path: &str, faults: &[Fault]) {
     }
 }
 
+/// Whether a text that isn't empty has no entry, not even one that can't be read.
+fn lacks_entries(read: &ReadItems, text: &str) -> bool {
+    read.items.is_empty() && read.faults.is_empty() && !text.trim().is_empty()
+}
+
 /// Prints what the items of a file don't have of their entries.
 fn show_losses(
     rt: &(impl Eprint + AllocGlobal),
@@ -106,6 +118,20 @@ fn show_losses(
 ) -> Result<(), AllocError> {
     for loss in &read.losses {
         show_warning(rt, path, loss)?;
+    }
+    Ok(())
+}
+
+/// Prints which entries of a file are left out, since another one has their key.
+fn show_repeated_keys(
+    rt: &(impl Eprint + AllocGlobal),
+    path: &str,
+    read: &ReadItems,
+) -> Result<(), AllocError> {
+    for loss in &read.losses {
+        if loss.field.as_str() == "id" {
+            show_warning(rt, path, loss)?;
+        }
     }
     Ok(())
 }
