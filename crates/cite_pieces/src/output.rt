@@ -265,10 +265,20 @@ impl<'s> Output<'s> {
     pub fn push_link(&mut self, inside: Pieces, address: String) -> Result<(), AllocError> {
         self.begin()?;
         let beginning = self.content.take_beginning(self.alloc, address.as_str())?;
+        self.begin_within();
         let mut whole = Pieces::new(self.alloc);
         whole.push_text(beginning)?;
         whole.push_pieces(inside)?;
         self.push_wrapped(Wrap::Link(address), whole)
+    }
+
+    /// Lets no open element begin behind the end of the stream, whose last text was taken off.
+    fn begin_within(&mut self) {
+        let end = self.content.len();
+        for open in self.open.iter_mut() {
+            open.start = open.start.min(end);
+            open.inside = open.inside.min(end);
+        }
     }
 
     /// Adds a stream with something around it.
