@@ -30,9 +30,14 @@ impl<'t> StyleSource<'t> {
         self.text
     }
 
-    /// How many lines there are.
+    /// How many lines there are. Behind the end of the last one there is none.
     pub fn line_count(&self) -> usize {
-        self.later_lines.len().saturating_add(1)
+        let ends = self.later_lines.len();
+        if self.text.ends_with('\n') {
+            ends
+        } else {
+            ends.saturating_add(1)
+        }
     }
 
     /// The line and the column of an offset, as `place_at` gives them.
