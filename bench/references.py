@@ -3,9 +3,9 @@
 .bib files by pybtex.
 
 PROGRAM is a built gamhilon. Makes files of so many entries (10,000 and 100,000, if not said), and
-prints of each the processor time and the peak of memory of the program, and of pybtex where it is there
-(Debian: python3-pybtex), which reads syntax and names alone; and how many times as long that took.
-Ends with status 1 where the program gives more or fewer items than there are entries.
+prints of each the processor time and the peak of memory of the program, and of pybtex where it is
+there (Debian: python3-pybtex), which reads syntax and names alone; and how many times as long that
+took. Ends with status 1 where the program gives more or fewer items than there are entries.
 """
 import json
 import os

@@ -1,5 +1,5 @@
-"""Dates and formulas of hayagriva's YAML and of pages, as CSL-JSON has them: dates are those of EDTF,
-the names of months are English."""
+"""Dates and formulas of hayagriva's YAML and of pages, as CSL-JSON has them. Dates are those of
+EDTF."""
 import pytest
 
 from gamhilon.references.dates import csl_date

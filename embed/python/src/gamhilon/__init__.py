@@ -13,7 +13,8 @@ What is there:
 - `Session` keeps a document that is edited, and says what changed (`sessions`).
 - `parse_citations` and `find_citations` read citations in pandoc's notation, `[see @doe99, p. 3]`;
   `markdown_pages` writes those of whole pages of Markdown, `latex_documents` those of LaTeX.
-- `references.load` reads the files of reference managers: CSL-JSON, BibLaTeX, BibTeX, hayagriva.
+- `references.load` reads the files of reference managers: CSL-JSON, BibLaTeX, BibTeX, RIS,
+  hayagriva.
 - `render_document` answers a document of the driver's own form (docs/DOCUMENT.md), whose entries
   `csl_json` makes of CSL-JSON; given `write`, a host writes each cite itself (docs/DRIVEN.md).
 - `to_html`, `to_markdown` and `to_latex` write trees of an answer, `style_sheet` lays out lists.
@@ -141,11 +142,11 @@ def cite(style: Union[str, bytes], items: Union[Json, references.References], ci
          most_bytes: Optional[int] = None, draft: bool = False) -> Answer:
     """Citations and a bibliography by a style file, from texts alone (docs/WRITER.md).
 
-    `style` is the text of a style file of CSL 1.0.2, `items` CSL-JSON or what `references.load`
-    gives, and `citations` a list of citations. These are lists of cites, or objects as in
-    csl-citation.json; cites are dicts with `id`, and maybe `locator`, `label`, `prefix`, `suffix`,
-    `suppress-author`, `author-only`, `hidden` and `note`. Items and citations may be JSON or its
-    value.
+    `style` is the text of a style file of CSL 1.0.2, `items` CSL-JSON, the text of a .bib file or
+    of RIS, or what `references.load` gives, and `citations` a list of citations. These are lists of
+    cites, or objects as in csl-citation.json; cites are dicts with `id`, and maybe `locator`,
+    `label`, `prefix`, `suffix`, `suppress-author`, `author-only`, `hidden` and `note`. Items and
+    citations may be JSON or its value.
     `locales` are the texts of locale files, beside that of American English, which is built in;
     `locale` is a language tag, in place of the style's. With `nocite` all items are listed.
     `abbreviations` are short forms of texts, as the JSON of pandoc and Zotero has them.

@@ -27,7 +27,6 @@ CITE, CITE_FAULT = 'gamhilon_cite', 'gamhilon_find_cite_fault'
 READ = 'gamhilon_read_references'
 """A library that has this call takes texts as one value."""
 
-
 OF_TEXTS = {CITE: 5, CITE_FAULT: 5, READ: 2}
 """The calls that take texts, and how many."""
 

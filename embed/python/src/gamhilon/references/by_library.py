@@ -31,8 +31,8 @@ def items(text: str, form: str, lang: str) -> Tuple[List[Item], List[Loss], List
 
 
 def bib_entries(text: str) -> List[Dict[str, Any]]:
-    """The entries of a .bib file as they stand there: `key`, `type` and `fields`. Types and names of
-    fields are in small letters. Raises as `items` does."""
+    """The entries of a .bib file as they stand there: `key`, `type` and `fields`. Types and names
+    of fields are in small letters. Raises as `items` does."""
     said, _ = _read(text, {'from': 'biblatex', 'entries': True})
     entries: List[Dict[str, Any]] = said['entries']
     return entries
