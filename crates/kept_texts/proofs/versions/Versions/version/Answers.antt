@@ -1,6 +1,6 @@
 use Rattle.std.proofs.Common.{◌≡◌, ◌∙◌, Some, None, ap, arith, subst, sym}
 use Rattle.std.specs.Prelude.{option_copied, string_bytes}
-use Rattle.kept_texts.specs.Known.{AreKnown, Known, version_of}
+use Rattle.kept_texts.specs.Known.{AreKnown, version_of}
 use Rattle.kept_texts.proofs.versions.Versions.version.Goals as goal
 
 pub returns-in-Some-clause-given : goal.returns-in-Some-clause-given
