@@ -128,7 +128,7 @@ def told(style, form):
 
 
 def lines():
-    """What docs/STYLES.md says of the page: the rows of its table, and the causes."""
+    """What docs/GUIDES/PANDOC.md says of the page: the rows of its table, and the causes."""
     rows = []
     for style in STYLES:
         for form in FORMS:

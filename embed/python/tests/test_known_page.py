@@ -59,7 +59,7 @@ def test_each_form_has_the_same_works(reader, form):
 @pytest.mark.parametrize('form', known_page.FORMS)
 @pytest.mark.parametrize('style', known_page.STYLES)
 def test_the_page_reads_as_pandoc_writes_it(style, form, reader, cites, published, known, tmp_path):
-    """But for the causes that docs/STYLES.md tells."""
+    """But for the causes that docs/GUIDES/PANDOC.md tells."""
     reader(form)
     script = tmp_path / 'filter.py'
     script.write_text(FILTER.format(python=sys.executable))
@@ -73,7 +73,7 @@ def test_the_page_reads_as_pandoc_writes_it(style, form, reader, cites, publishe
 
 
 def test_the_documentation_tells_what_differs():
-    with open(f'{ROOT}/docs/STYLES.md', encoding='utf-8') as file:
+    with open(f'{ROOT}/docs/GUIDES/PANDOC.md', encoding='utf-8') as file:
         documented = ' '.join(file.read().split())
     assert [line for line in known_page.lines()
             if ' '.join(line.split()) not in documented] == []
