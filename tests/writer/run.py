@@ -120,6 +120,17 @@ def try_help(program):
         raise Failed('--version: status %d, %r, %r' % (status, out, error))
 
 
+def try_closed_pipe(program):
+    """Where nobody reads the answer, as behind `| head -0`, the command ends without a line."""
+    for words in (['styles'], ['explain', 'author-date'], ['cite', '--help']):
+        reading, writing = os.pipe()
+        os.close(reading)
+        with os.fdopen(writing, 'wb') as pipe:
+            done = subprocess.run([program, *words], stdout=pipe, stderr=subprocess.PIPE, timeout=SECONDS)
+        if done.returncode != 1 or done.stderr:
+            raise Failed('%s: status %d, %r' % (' '.join(words), done.returncode, done.stderr))
+
+
 def plain(tree):
     """The texts of a tree of docs/ANSWER.md."""
     return ''.join(plain(node['children']) if 'children' in node else node['text'] for node in tree)
@@ -358,7 +369,7 @@ def try_growth(program, made):
 
 
 def tests_of(options):
-    tests = [('help', try_help), ('JSON', try_json)]
+    tests = [('help', try_help), ('a closed pipe', try_closed_pipe), ('JSON', try_json)]
     tests += [('case: ' + case.name, try_case, case) for case in CASES]
     tests += [('fault: ' + fault.name, try_fault, fault) for fault in FAULTS]
     tests += [('style: ' + os.path.basename(path), try_check, path) for path in pandoc.STYLES]

@@ -51,8 +51,7 @@ pub(crate) fn check_all(
     for path in paths {
         match check_file(rt, path.as_str()) {
             Ok(()) => {}
-            Err(CommandError::Output) => return Err(CommandError::Output),
-            Err(CommandError::OutOfMemory) => return Err(CommandError::OutOfMemory),
+            Err(error) if error.ends_all() => return Err(error),
             Err(error) => {
                 let status = error.status();
                 is_wrong = is_wrong || status == 2;

@@ -49,6 +49,8 @@ pub(crate) enum CommandError {
     },
     /// What is written can't be handed over.
     Output,
+    /// Nobody reads any more what is written, as behind `| head`.
+    ClosedPipe,
     OutOfMemory,
 }
 
@@ -56,7 +58,7 @@ impl CommandError {
     /// Its exit status.
     pub fn status(&self) -> u8 {
         match self {
-            CommandError::Unreadable { .. } | CommandError::Output => 1,
+            CommandError::Unreadable { .. } | CommandError::Output | CommandError::ClosedPipe => 1,
             CommandError::Refused { .. }
             | CommandError::Faults(_)
             | CommandError::UnknownIds { .. } => 2,
@@ -66,6 +68,14 @@ impl CommandError {
             CommandError::OutOfMemory => 5,
             CommandError::Usage(_) | CommandError::UnknownStyle(_) => 64,
         }
+    }
+
+    /// Whether nothing more can be done, whatever the next file is.
+    pub fn ends_all(&self) -> bool {
+        matches!(
+            self,
+            CommandError::Output | CommandError::ClosedPipe | CommandError::OutOfMemory
+        )
     }
 }
 
@@ -103,8 +113,11 @@ impl<T: Drop> From<AllocFailed<T>> for CommandError {
 }
 
 impl From<io::Error> for CommandError {
-    fn from(_error: io::Error) -> CommandError {
-        CommandError::Output
+    fn from(error: io::Error) -> CommandError {
+        match error.kind() {
+            io::ErrorKind::BrokenPipe => CommandError::ClosedPipe,
+            _ => CommandError::Output,
+        }
     }
 }
 
@@ -140,6 +153,7 @@ impl fmt::Display for CommandError {
                 write!(f, "{path}: error: {why}")
             }
             CommandError::Output => f.write_str("gamhilon: the answer can't be written"),
+            CommandError::ClosedPipe => f.write_str("gamhilon: nobody reads the answer"),
             CommandError::OutOfMemory => f.write_str("gamhilon: out of memory"),
         }
     }

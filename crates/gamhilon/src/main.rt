@@ -39,6 +39,7 @@ use std::{env, io};
 fn main(rt: HostRuntime) -> ExitCode {
     match run(&rt) {
         Ok(code) => code,
+        Err(CommandError::ClosedPipe) => ExitCode::from(CommandError::ClosedPipe.status()),
         Err(error) => {
             let _ = eprintln!(rt; "{error}");
             ExitCode::from(error.status())
