@@ -1,14 +1,19 @@
 //! The text of a style file: its lines, and its start tags.
 use std::alloc::{AllocError, Global};
-use xml_reader::error::{Place, place_at};
+use xml_reader::error::Place;
 
-/// The text of a style file, with the places of its lines.
+/// The text of a style file, with the places of its elements.
 #[derive(Drop)]
 pub(crate) struct StyleSource<'t> {
     text: &'t str,
-    /// Where its lines begin, the first one apart.
-    later_lines: Vec<usize>,
+    /// The places of each `STEP`-th byte, from the beginning on.
+    marks: Vec<Place>,
+    /// The place of the end.
+    end: Place,
 }
+
+/// How many bytes there are from one mark to the next.
+const STEP: usize = 1024;
 
 impl<'t> StyleSource<'t> {
     /// The lines of a text.
@@ -17,13 +22,15 @@ impl<'t> StyleSource<'t> {
     ///
     /// Where memory is refused.
     pub fn new(alloc: Global, text: &'t str) -> Result<StyleSource<'t>, AllocError> {
-        let mut later_lines = Vec::new(alloc);
-        for (place, byte) in text.as_bytes().iter().enumerate() {
-            if *byte == b'\n' {
-                later_lines.push(place.saturating_add(1))?;
+        let mut marks = Vec::new(alloc);
+        let mut end = beginning(text);
+        for (offset, byte) in text.as_bytes().iter().enumerate() {
+            if offset % STEP == 0 {
+                marks.push(end)?;
             }
+            end = behind(end, *byte);
         }
-        Ok(StyleSource { text, later_lines })
+        Ok(StyleSource { text, marks, end })
     }
 
     pub fn text(&self) -> &'t str {
@@ -32,27 +39,53 @@ impl<'t> StyleSource<'t> {
 
     /// How many lines there are. Behind the end of the last one there is none.
     pub fn line_count(&self) -> usize {
-        let ends = self.later_lines.len();
         if self.text.ends_with('\n') {
-            ends
+            self.end.line.saturating_sub(1)
         } else {
-            ends.saturating_add(1)
+            self.end.line
         }
     }
 
-    /// The line and the column of an offset, as `place_at` gives them.
+    /// The line and the column of an offset, as the faults of a style have them.
     pub fn place(&self, offset: usize) -> Place {
-        let before = self.later_lines.partition_point(|start| *start <= offset);
-        let start = match before.checked_sub(1) {
-            Some(last) => self.later_lines.get(last).copied().unwrap_or(0),
-            None => 0,
+        let offset = offset.min(self.text.len());
+        let last = self.marks.len().saturating_sub(1);
+        let mark = (offset / STEP).min(last);
+        let mut place = match self.marks.get(mark) {
+            Some(place) => *place,
+            None => beginning(self.text),
         };
-        let line = self.text.get(start..).unwrap_or("");
-        let in_line = place_at(line, offset.saturating_sub(start));
-        Place {
-            line: before.saturating_add(in_line.line),
-            column: in_line.column,
+        let bytes = self.text.as_bytes();
+        for byte in bytes.get(mark.saturating_mul(STEP)..offset).unwrap_or(&[]) {
+            place = behind(place, *byte);
         }
+        Place {
+            column: place.column.max(1),
+            ..place
+        }
+    }
+}
+
+/// The place of the beginning of a text. A byte order mark has no column.
+fn beginning(text: &str) -> Place {
+    Place {
+        line: 1,
+        column: usize::from(!text.starts_with('\u{feff}')),
+    }
+}
+
+/// The place behind a byte that is at a place. A character has one column.
+fn behind(place: Place, byte: u8) -> Place {
+    match byte {
+        b'\n' => Place {
+            line: place.line.saturating_add(1),
+            column: 1,
+        },
+        0x80..=0xbf => place,
+        _ => Place {
+            column: place.column.saturating_add(1),
+            ..place
+        },
     }
 }
 
