@@ -142,7 +142,7 @@ module _ {E P : Type 0} (delimiter : Option (List ℕ)) (there : is_none delimit
     in-blocks = record {
       first_begins = laid-first delimiter (grouped_cites delimiter cites) are-laid;
       other_begins = laid-other delimiter (grouped_cites delimiter cites) are-laid;
-      same_behind_delimiter = λ k next. (laid-same delimiter (grouped_cites delimiter cites) are-laid k next).0;
+      same_after_delimiter = λ k next. (laid-same delimiter (grouped_cites delimiter cites) are-laid k next).0;
       in_order = rise;
       index_for_names = laid-index delimiter (grouped_cites delimiter cites) are-laid;
       same_index = λ k next. (laid-same delimiter (grouped_cites delimiter cites) are-laid k next).1;

@@ -74,13 +74,13 @@ module _ {E P : Type 0} (citation : CitationValue) (to_suffixes : Bool) (cites :
   behind-test k h = follows gs k ∙ and_from (was_later_at gs k) (not (later_at gs k)) was (of-not _ (none-own k h.other))
     where
       was : was_later_at gs k ≡ true
-      was = subst (λ j. was_later_at gs j ≡ true) (sym (h.directly ∙ add-one h.before)) (own-test h.before h.behind_own)
+      was = subst (λ j. was_later_at gs j ≡ true) (sym (h.directly ∙ add-one h.before)) (own-test h.before h.after_own)
 
   test-behind : (k : ℕ) → follows_stretch gs k ≡ true → FollowsBlock cites k
   test-behind zero h = absurd (true≢false (sym (sym (follows gs zero) ∙ h)))
   test-behind (suc k) h =
       let p = and_parts (later_at gs k) (not (later_at gs (suc k))) (sym (follows gs (suc k)) ∙ h) in
-      record { before = k; directly = sym (add-one k); behind_own = test-own k p.0; other = λ own. clash (later_at gs (suc k)) (own-test (suc k) own) (from-not _ p.1) }
+      record { before = k; directly = sym (add-one k); after_own = test-own k p.0; other = λ own. clash (later_at gs (suc k)) (own-test (suc k) own) (from-not _ p.1) }
 
   -- what stands at k, by the two tests
   done-at : (k : ℕ) (o : Option (ItemRender E P)) → slice_get cites k ≡ o → (l f : Bool) → is_later_in_stretch gs k ≡ l → follows_stretch gs k ≡ f
@@ -143,8 +143,8 @@ module _ {E P : Type 0} (citation : CitationValue) (to_suffixes : Bool) (cites :
 
   pub years-collapse : YearsCollapse cites done cut after
   years-collapse = record {
-    cut_behind_own = λ k c own e. done-at k (Some c) e true (follows_stretch gs k) (later gs k ∙ own-test k own) refl;
+    cut_after_own = λ k c own e. done-at k (Some c) e true (follows_stretch gs k) (later gs k ∙ own-test k own) refl;
     names_before = whole-before;
-    behind_block = λ k c h e. done-at k (Some c) e false true (later gs k ∙ none-own k h.other) (behind-test k h);
+    after_block = λ k c h e. done-at k (Some c) e false true (later gs k ∙ none-own k h.other) (behind-test k h);
     else_stays = stays-at;
   }

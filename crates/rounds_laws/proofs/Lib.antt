@@ -5,3 +5,6 @@ pub mod Drawn
 pub mod Rising
 pub mod Laid
 pub mod Blocks
+pub mod AsRendered
+pub mod Counting
+pub mod Answers

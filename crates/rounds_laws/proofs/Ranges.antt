@@ -241,7 +241,7 @@ module _ {E P : Type 0} (after : Option (List ℕ)) (cites : List (ItemRender E 
   behind-at : (k : ℕ) → FollowsRange cites done k → override_at done k ≡ after
   behind-at k h =
       let s : shows ns k ≡ true = ap is_some (number-is k) ∙ h.shows in
-      let b = behind-test k (record { place = h.before; directly = h.directly ∙ add-one h.before; end = end-of h.before h.behind_range; shown = s }) in
+      let b = behind-test k (record { place = h.before; directly = h.directly ∙ add-one h.before; end = end-of h.before h.after_range; shown = s }) in
       let c = shows-at k s in
       override-after k (Some c.cite) c.here
       ∙ (λ i. if b.0 i then Some en_dash else if b.1 i then after else c.cite.delimiter_override)
@@ -258,7 +258,7 @@ module _ {E P : Type 0} (after : Option (List ℕ)) (cites : List (ItemRender E 
           no-behind (record {
             before = b.place;
             directly = b.directly ∙ sym (add-one b.place);
-            behind_range = of-end b.place b.end;
+            after_range = of-end b.place b.end;
             shows = ap is_some (sym (number-is k)) ∙ b.shown;
           }))
 
@@ -307,7 +307,7 @@ module _ {E P : Type 0} (after : Option (List ℕ)) (cites : List (ItemRender E 
     no_other_hides = no-other;
     dash = dash-at;
     for_numbers = for-numbers;
-    behind_range = behind-at;
+    after_range = behind-at;
     else_stays = else-at;
   }
     where

@@ -17,7 +17,7 @@ module _ {E P : Type 0} where
   abbrev pub block_at : List (ItemRender E P) → ℕ → Option ℕ
   block_at cites k = option_and_then (λ c. c.group) (slice_get cites k)
 
-  -- the cite right behind the one at k is of its block: both have the same first names element
+  -- the cite right after the one at k is of its block: both have the same first names element
   pub record NextIsOfBlock (cites : List (ItemRender E P)) (k : ℕ) : Type 0 where
     pub names : Elem
     pub here : names_at cites k ≡ Some names
@@ -42,7 +42,7 @@ module _ {E P : Type 0} where
     pub first_begins : override_at grouped 0 ≡ None
     pub other_begins : (k : ℕ) → ¬ NextIsOfBlock grouped k → override_at grouped (k + 1) ≡ None
     -- the others have the delimiter as their override
-    pub same_behind_delimiter : (k : ℕ) → NextIsOfBlock grouped k
+    pub same_after_delimiter : (k : ℕ) → NextIsOfBlock grouped k
         → override_at grouped (k + 1) ≡ delimiter
     -- the blocks stand in the order of their first cites in the request
     pub in_order : AllPairs (λ p q. p < q) (block_places order grouped)

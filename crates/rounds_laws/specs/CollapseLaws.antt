@@ -18,7 +18,7 @@ module _ {E P : Type 0} where
   abbrev pub number_shown_at : List (ItemRender E P) → ℕ → Option ℕ
   number_shown_at cites k = option_and_then shown_number (slice_get cites k)
 
-  -- the cite at k and the two right behind it show numbers, each one more than the one before
+  -- the cite at k and the two right after it show numbers, each one more than the one before
   pub record AreInARow (cites : List (ItemRender E P)) (k : ℕ) : Type 0 where
     pub number : ℕ
     pub first : number_shown_at cites k ≡ Some number
@@ -43,7 +43,7 @@ module _ {E P : Type 0} where
   pub record FollowsBlock (cites : List (ItemRender E P)) (k : ℕ) : Type 0 where
     pub before : ℕ
     pub directly : k ≡ before + 1
-    pub behind_own : FollowsOwn cites before
+    pub after_own : FollowsOwn cites before
     pub other : ¬ FollowsOwn cites k
 
   -- how the cite at k is cut, if it is: to its date, or to its suffix
@@ -63,7 +63,7 @@ module _ {E P : Type 0} (cites collapsed : List (ItemRender E P)) where
   pub record FollowsRange (k : ℕ) : Type 0 where
     pub before : ℕ
     pub directly : k ≡ before + 1
-    pub behind_range : EndsRange before
+    pub after_range : EndsRange before
     pub shows : is_some (number_shown_at cites k) ≡ true
 
   -- between the cite at k and the one shown before it collapsing hid all, and their numbers are
@@ -73,7 +73,7 @@ module _ {E P : Type 0} (cites collapsed : List (ItemRender E P)) where
     pub next_shown : AreNextShown cites collapsed first k
     pub numbers : AreCollapsed cites collapsed first k
 
-  -- where citation numbers collapse, with this delimiter behind ranges
+  -- where citation numbers collapse, with this delimiter after ranges
   pub record NumbersCollapse (after : Option (List ℕ)) : Type 0 where
     -- the middle one of three cites in a row is hidden, and collapsing hid no other
     pub middle_hides : (k : ℕ) → IsMiddle cites k → is_hidden collapsed k ≡ true
@@ -81,8 +81,8 @@ module _ {E P : Type 0} (cites collapsed : List (ItemRender E P)) where
     -- a dash stands before the end of a range, and it means hidden numbers
     pub dash : (k : ℕ) → EndsRange k → override_at collapsed k ≡ Some en_dash
     pub for_numbers : (k : ℕ) → EndsRange k → HasHiddenNumbers k
-    -- a number right behind a range has the delimiter
-    pub behind_range : (k : ℕ) → FollowsRange k → override_at collapsed k ≡ after
+    -- a number right after a range has the delimiter
+    pub after_range : (k : ℕ) → FollowsRange k → override_at collapsed k ≡ after
     -- every other cite keeps its override, so that nothing else is given a dash
     pub else_stays : (k : ℕ) → ¬ EndsRange k → ¬ FollowsRange k
         → override_at collapsed k ≡ override_at cites k
@@ -95,16 +95,16 @@ module _ {E P : Type 0} (cites collapsed : List (ItemRender E P)) where
     pub one_block : (j : ℕ) → first ≤ j → j ≤ k → block_at cites j ≡ block_at cites k
     pub whole : verdict_at collapsed first ≡ verdict_at cites first
 
-  -- where years collapse, with these cuts and with this delimiter behind blocks
+  -- where years collapse, with these cuts and with this delimiter after blocks
   pub record YearsCollapse (cut : ItemRender E P → ItemRender E P) (after : Option (List ℕ))
       : Type 0 where
-    -- a cite right behind one of its own block is cut
-    pub cut_behind_own : (k : ℕ) (c : ItemRender E P) → FollowsOwn cites k
+    -- a cite right after one of its own block is cut
+    pub cut_after_own : (k : ℕ) (c : ItemRender E P) → FollowsOwn cites k
         → slice_get cites k ≡ Some c → slice_get collapsed k ≡ Some (cut c)
     -- so names are left out only where a cite before, of the same block, isn't cut
     pub names_before : (k : ℕ) → FollowsOwn cites k → FollowsWhole k
     -- what follows a block with cites that are cut has the delimiter
-    pub behind_block : (k : ℕ) (c : ItemRender E P) → FollowsBlock cites k
+    pub after_block : (k : ℕ) (c : ItemRender E P) → FollowsBlock cites k
         → slice_get cites k ≡ Some c
         → slice_get collapsed k ≡ Some (record c { delimiter_override = after })
     -- every other cite stays as it was
