@@ -83,7 +83,7 @@ module _ {E P : Type 0} (cites collapsed : List (ItemRender E P)) where
     pub for_numbers : (k : ℕ) → EndsRange k → HasHiddenNumbers k
     -- a number right after a range has the delimiter
     pub after_range : (k : ℕ) → FollowsRange k → override_at collapsed k ≡ after
-    -- every other cite keeps its override, so that nothing else is given a dash
+    -- every other cite keeps its override: else only a delimiter of the style can be a dash
     pub else_stays : (k : ℕ) → ¬ EndsRange k → ¬ FollowsRange k
         → override_at collapsed k ≡ override_at cites k
 
