@@ -8,3 +8,4 @@ pub mod NotOwn
 pub mod ListedWrong
 pub mod AllRight
 pub mod Unmarked
+pub mod FurtherWrong

@@ -9,3 +9,4 @@ pub mod Letters
 pub mod Cites
 pub mod Listed
 pub mod Marks
+pub mod Further

@@ -7,6 +7,7 @@
 #![tactic(auto)]
 
 pub mod cites;
+pub mod further;
 pub mod listed;
 pub mod marks;
 pub mod numbers;

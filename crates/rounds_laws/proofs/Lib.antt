@@ -1,0 +1,10 @@
+pub mod Places
+pub mod Ranges
+pub mod Cuts
+pub mod Drawn
+pub mod Rising
+pub mod Laid
+pub mod Blocks
+pub mod AsRendered
+pub mod Counting
+pub mod Answers
