@@ -1,0 +1,14 @@
+pub mod Parting
+pub mod Cutting
+pub mod Places
+pub mod Blocks
+pub mod Ranges
+pub mod Arranging
+pub mod Ordering
+pub mod Standing
+pub mod Giving
+pub mod Alone
+pub mod Adding
+pub mod Long
+pub mod Listing
+pub mod Comes
