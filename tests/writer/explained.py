@@ -157,9 +157,13 @@ def styles():
 
 def try_texts(program, ended, style):
     """Together the texts are those that the program writes otherwise."""
-    files = [BENCH + 'references.json', BENCH + 'citations.json']
-    both = ran(ended, program, 'cite', '--with-bibliography', '--style', style, *files)
-    answer = json.loads(ran(ended, program, 'explain', style, *files))
+    with open(BENCH + 'citations.json') as file:
+        citations = [it['cites'] for it in json.load(file)]
+    with tempfile.TemporaryDirectory(prefix='explained-') as folder:
+        written(folder, {'c.json': json.dumps(citations)})
+        files = [BENCH + 'references.json', folder + '/c.json']
+        both = ran(ended, program, 'cite', '--with-bibliography', '--style', style, *files)
+        answer = json.loads(ran(ended, program, 'explain', style, *files))
     came = [joined(it) for it in answer['citations']]
     if 'bibliography' in answer:
         came += [''] + [joined(it['texts']) for it in answer['bibliography']]
