@@ -6,13 +6,14 @@ import subprocess
 import sys
 import threading
 import time
+import urllib.error
 import urllib.request
 
 import pytest
 from conftest import SOURCE, heed_interrupts
 
 from gamhilon import __main__ as command_line
-from gamhilon import _library
+from gamhilon import _library, _preview_command
 from gamhilon._preview_command import HOST, Preview, server_of
 from gamhilon._preview_page import Previewed
 from stand_ins import FaultyStyle
@@ -160,6 +161,46 @@ def test_the_page_is_of_this_machine_alone(stands_in, file, address, path, host,
     assert answer.getheader('Cache-Control') == 'no-store'
     assert "default-src 'none'" in answer.getheader('Content-Security-Policy')
     asked.close()
+
+
+# The page of the program
+
+@pytest.fixture
+def says(monkeypatch, tmp_path):
+    """Puts a script in place of the program: one that ends so, having printed its last word."""
+    def script(*lines):
+        path = tmp_path / 'gamhilon'
+        path.write_text('\n'.join(['#!/bin/sh', *lines]) + '\n')
+        path.chmod(0o755)
+        monkeypatch.setattr(_preview_command, 'program', lambda: str(path))
+    return script
+
+
+def test_the_page_of_the_program_follows_the_file(stands_in, says, file, address):
+    says('echo "<!DOCTYPE html>"', 'echo "<html lang=en><head></head><body>$*</body></html>"')
+    preview = Preview(Previewed(str(file), locale='de-DE'))
+    at = address(preview)
+    assert '<a href="/explained">' in read(f'{at}/')
+    page = read(f'{at}/explained')
+    assert f'<body>explain --to html --locale de-DE {file}</body>' in page
+    assert '<script src="/follow.js" defer></script>' in page
+    known = version_in(page)
+    file.write_text(style() + '<!-- more -->')
+    assert preview.refresh() and version_in(read(f'{at}/explained')) != known
+
+
+def test_what_the_program_refuses_is_shown_with_its_lines(stands_in, says, file, address):
+    says(f"echo '{file}:1:1: error: <none>' >&2", 'exit 2')
+    page = read(address(Preview(Previewed(str(file)))) + '/explained')
+    assert 'error: &lt;none&gt;' in page and '<mark>1 ' in page
+
+
+def test_without_the_program_there_is_no_such_page(stands_in, monkeypatch, file, address):
+    monkeypatch.setattr(_preview_command, 'program', lambda: None)
+    at = address(Preview(Previewed(str(file))))
+    assert 'explained' not in read(f'{at}/')
+    with pytest.raises(urllib.error.HTTPError, match='404'):
+        read(f'{at}/explained')
 
 
 # The command line

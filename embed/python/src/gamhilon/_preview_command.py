@@ -12,7 +12,8 @@ from typing import Any, List, NoReturn, Optional, Tuple
 
 from . import _console, csl
 from ._console import INPUT_OR_OUTPUT_FAILED, say
-from ._preview_page import FOLLOWING, Previewed, State, page_of, state_of, watched
+from ._explained_page import EXPLAINED, explained_page, program
+from ._preview_page import FOLLOWING, Previewed, State, content_of, page_of, state_of, watched
 from .errors import GamhilonError
 
 __all__ = ['HOST', 'PORT', 'Preview', 'preview_command', 'server_of']
@@ -47,6 +48,10 @@ async function follow(known) {
 follow(document.documentElement.dataset.version || '');
 """
 _POLICY = "default-src 'none'; style-src 'unsafe-inline'; script-src 'self'; connect-src 'self'"
+_POLICY_EXPLAINED = _POLICY.replace("script-src 'self'", "script-src 'self' 'unsafe-inline'")
+"""The page of the program has its script in itself."""
+
+_LINK = f'<p><a href="{EXPLAINED}">Which element wrote each text</a></p>\n'
 
 
 def preview_command(style: str, port: int, locale: Optional[str], locales: Optional[str]) -> int:
@@ -77,10 +82,11 @@ class Preview:
 
     def __init__(self, shown: Previewed) -> None:
         self._shown = shown
+        self._program = program()
         self._files: List[str] = []
         self._state: State = ()
         self._changed = threading.Condition()
-        self._page = ''
+        self._page = self._version = ''
         self.refresh()
 
     def refresh(self) -> bool:
@@ -91,9 +97,11 @@ class Preview:
         self._files = watched(self._shown)
         self._state = state_of(self._files)
         with _console.progress(f'citing in {self._shown.style}'):
-            page = page_of(self._shown)
+            page = page_of(self._shown, _LINK if self._program else '')
+        version = _version_of(page, self._files)
         with self._changed:
             self._page = page
+            self._version = version
             self._changed.notify_all()
         return True
 
@@ -106,19 +114,36 @@ class Preview:
     def page(self) -> str:
         """The page, with the version by which it is known."""
         with self._changed:
-            page = self._page
-        return page.replace('<html ', f'<html data-version="{_version(page)}" ', 1)
+            page, version = self._page, self._version
+        return _with_version(page, version)
+
+    def explained(self) -> Optional[str]:
+        """The page of the program, with the version by which it is known; None without the
+        program."""
+        if self._program is None:
+            return None
+        with self._changed:
+            version = self._version
+        return _with_version(explained_page(self._shown, self._program), version)
 
     def version(self, known: str, seconds: float) -> str:
         """The version of the page once it isn't the one that is known, or after some seconds."""
         with self._changed:
-            self._changed.wait_for(lambda: _version(self._page) != known, seconds)
-            return _version(self._page)
+            self._changed.wait_for(lambda: self._version != known, seconds)
+            return self._version
 
 
-def _version(page: str) -> str:
-    """What changes with a page: a file that is saved with the same style shows the same."""
-    return hashlib.sha256(page.encode('utf-8', 'replace')).hexdigest()[:16]
+def _version_of(page: str, files: List[str]) -> str:
+    """What changes with a page, and with the files that it depends on: one that is saved as it was
+    shows the same."""
+    version = hashlib.sha256(page.encode('utf-8', 'replace'))
+    for file in files:
+        version.update(content_of(file))
+    return version.hexdigest()[:16]
+
+
+def _with_version(page: str, version: str) -> str:
+    return page.replace('<html ', f'<html data-version="{version}" ', 1)
 
 
 class _Server(ThreadingHTTPServer):
@@ -150,11 +175,12 @@ class _Handler(BaseHTTPRequestHandler):
 
     def do_GET(self) -> None:
         status, kind, text = self._answer()
+        policy = _POLICY_EXPLAINED if self.path == EXPLAINED else _POLICY
         data = text.encode('utf-8', 'replace')
         self.send_response(status)
         for name, value in (('Content-Type', f'{kind}; charset=utf-8'),
                             ('Content-Length', str(len(data))), ('Cache-Control', 'no-store'),
-                            ('Content-Security-Policy', _POLICY),
+                            ('Content-Security-Policy', policy),
                             ('X-Content-Type-Options', 'nosniff')):
             self.send_header(name, value)
         self.end_headers()
@@ -171,6 +197,10 @@ class _Handler(BaseHTTPRequestHandler):
         path, _, known = self.path.partition('?')
         if path == '/':
             return HTTPStatus.OK, 'text/html', self.shown.page()
+        if path == EXPLAINED:
+            explained = self.shown.explained()
+            if explained is not None:
+                return HTTPStatus.OK, 'text/html', explained
         if path == FOLLOWING:
             return HTTPStatus.OK, 'text/javascript', _SCRIPT
         if path == '/version':

@@ -16,7 +16,8 @@ from .csl.rendering import LANGUAGE
 from .csl.style import load
 from .errors import GamhilonError, LibraryMissing
 
-__all__ = ['FOLLOWING', 'Previewed', 'State', 'page_of', 'state_of', 'watched']
+__all__ = ['FOLLOWING', 'Previewed', 'State', 'content_of', 'fault_page', 'page_of', 'state_of',
+           'watched']
 
 FOLLOWING = '/follow.js'
 """Where the page finds the script by which it follows the file."""
@@ -76,22 +77,37 @@ def _state(file: str) -> Optional[Tuple[int, int, int]]:
     return found.st_mtime_ns, found.st_size, found.st_ino
 
 
-def page_of(shown: Previewed) -> str:
-    """The page: the sample with what is odd in the style, or what is wrong, each with the lines of
-    the file that it names. Raises LibraryMissing."""
+def content_of(file: str) -> bytes:
+    """What is in a file; nothing of a folder, or of a file that can't be read."""
+    try:
+        with open(file, 'rb') as opened:
+            return opened.read()
+    except (OSError, ValueError):
+        return b''
+
+
+def page_of(shown: Previewed, above: str = '') -> str:
+    """The page: the sample, below this HTML, with what is odd in the style, or what is wrong, each
+    with the lines of the file that it names. Raises LibraryMissing."""
     try:
         sample = sample_of(shown.style, shown.locale, shown.locales)
     except LibraryMissing:
         raise
     except (GamhilonError, OSError, ValueError) as error:
-        return _page(shown.style, f'<h1>{html.escape(shown.style)}</h1>\n'
-                                  f'<p class="csl-fault" role="alert">{_escaped(str(error))}</p>\n'
-                                  f'{_Excerpts(shown).of(str(error))}')
+        return fault_page(shown, str(error))
     excerpts = _Excerpts(shown)
     remarks = [f'<li>{_escaped(remark)}\n{excerpts.of(remark)}</li>\n'
                for remark in sample.remarks()]
     odd = f'<ul class="csl-fault">\n{"".join(remarks)}</ul>\n' if remarks else ''
-    return _page(sample.title, f'{odd}{sample_in_html(sample)}')
+    return _page(sample.title, f'{odd}{above}{sample_in_html(sample)}')
+
+
+def fault_page(shown: Previewed, fault: str) -> str:
+    """The page of a style with which something is wrong, and the lines of the file that this
+    names."""
+    return _page(shown.style, f'<h1>{html.escape(shown.style)}</h1>\n'
+                              f'<p class="csl-fault" role="alert">{_escaped(fault)}</p>\n'
+                              f'{_Excerpts(shown).of(fault)}')
 
 
 def _page(title: str, content: str) -> str:
