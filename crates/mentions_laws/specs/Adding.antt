@@ -1,5 +1,5 @@
--- Names are added only as styles say: that of the mention which leads a group says what is added for
--- the group, and a mention's own style what is added by the document.
+-- Names are added only as styles say: that of the mention which leads a group says what is added
+-- for the group, and a mention's own style what is added by the document.
 use Rattle.std.specs.Prelude.{◌≡◌, ℕ, All, Bool, true, false, List, Option, Some, map, slice_get}
 use Rattle.std.specs.List.{zip}
 use Rattle.std.specs.Option.{option_map_or}

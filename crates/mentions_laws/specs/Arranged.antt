@@ -26,8 +26,8 @@ abbrev pub is_dash : YearDelimiter → Bool
 is_dash YearDelimiter.Dash = true
 is_dash _ = false
 
--- nothing collapses at a cite: it is shown as without collapsing, after the layout's delimiter or the
--- cite group delimiter
+-- nothing collapses at a cite: it is shown as without collapsing, after the layout's delimiter or
+-- the cite group delimiter
 pub record IsUncollapsed (way : ArrangedCite) : Type 0 where
   pub is_shown : way.is_inner ≡ false
   pub is_whole : way.cut ≡ YearCut.Whole
@@ -43,10 +43,12 @@ pub record ShowsBareNumber {L : Type 0} (c : PositionedCite L) : Type 0 where
 module _ {L : Type 0} (cites : List (PositionedCite L)) where
   -- by suffixes: the cite behind the one at k shows its suffix alone, since it reads like that one
   abbrev pub reads_on : Option Collapse → ℕ → Bool
-  reads_on (Some Collapse.YearSuffix) k =
-      both joins (slice_get (map suffixed_cite cites) k) (slice_get (map suffixed_cite cites) (suc k))
-  reads_on (Some Collapse.YearSuffixRanged) k =
-      both joins (slice_get (map suffixed_cite cites) k) (slice_get (map suffixed_cite cites) (suc k))
+  reads_on (Some Collapse.YearSuffix) k = both joins
+      (slice_get (map suffixed_cite cites) k)
+      (slice_get (map suffixed_cite cites) (suc k))
+  reads_on (Some Collapse.YearSuffixRanged) k = both joins
+      (slice_get (map suffixed_cite cites) k)
+      (slice_get (map suffixed_cite cites) (suc k))
   reads_on _ k = false
 
   module _ (numbers : List ℕ) where
@@ -72,8 +74,9 @@ module _ {L : Type 0} (cites : List (PositionedCite L)) where
         -- the place where it was handed in, and how it stands to the cite before it
         pub place : way.place ≡ c.placed.place
         pub position : way.position ≡ c.position
-        -- it is cut to its suffix where it reads like the cite before it; else it has no names where
-        -- years collapse and it isn't the first cite of its part, if it shows names and a date
+        -- it is cut to its suffix where it reads like the cite before it; else it has no names
+        -- where years collapse and it isn't the first cite of its part, if it shows names and a
+        -- date
         pub cut : way.cut ≡ cut_of
             (collapses_years collapse && nat_lt first k
             && (is_some (names_shown c.cite) && c.cite.shown.has_date))
@@ -91,7 +94,8 @@ module _ {L : Type 0} (cites : List (PositionedCite L)) where
             → slice_get ways k ≡ Some way → IsArranged (parts.begins k) k c way
         -- the names of a cite that has none left stand before it
         pub cut_names_stand_before : (k : ℕ) → cut_at k ≡ Some YearCut.WithoutNames
-            → NamesStandBefore (shown_at (map shown_cite cites)) (λ j. cut_at j ≡ Some YearCut.Whole) k
+            → NamesStandBefore (shown_at (map shown_cite cites))
+            (λ j. cut_at j ≡ Some YearCut.Whole) k
         -- nothing collapses where a style collapses nothing, or a cite has a purpose
         pub uncollapsed : collapse ≡ None
             → (k : ℕ) (way : ArrangedCite) → slice_get ways k ≡ Some way → IsUncollapsed way

@@ -1,6 +1,6 @@
--- What a caller may rely on, beyond `KeepsCslLaws`, of an answer in which works are disambiguated as
--- CSL 1.0.2 has it: what each cite is given, and how the cites of each request are brought together
--- and arranged.
+-- What a caller may rely on, beyond `KeepsCslLaws`, of an answer in which works are disambiguated
+-- as CSL 1.0.2 has it: what each cite is given, and how the cites of each request are brought
+-- together and arranged.
 use Rattle.std.specs.Prelude.{Bool, List, map}
 use Rattle.std.specs.List.{AllZip, zip}
 use Rattle.csl_arranging.specs.Order.{grouped_cite, is_grouped}

@@ -56,7 +56,8 @@ both_cut =
 -- the second without them
 abbrev pub second_cut : List (ItemRender Sample ℕ)
 second_cut =
-    record (by_a 0) { group = Some 0 } ∷ cut_to_date by_year (record (by_a 1) { group = Some 0 }) ∷ []
+    record (by_a 0) { group = Some 0 }
+    ∷ cut_to_date by_year (record (by_a 1) { group = Some 0 }) ∷ []
 
 -- B B A A A of A B A A B: the blocks with their overrides and indexes, but the later one first
 abbrev pub backwards : List (ItemRender Sample ℕ)

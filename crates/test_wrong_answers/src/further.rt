@@ -47,8 +47,10 @@ pub fn numbers_not_collapsed()
 
 /// Where years collapse both cites of a block lose their names.
 pub fn years_alone()
-    ensures refuted { ¬ YearsCollapse of_one_block both_cut (cut_by by_year) (after_collapse by_year) }
-    ensures right { YearsCollapse of_one_block second_cut (cut_by by_year) (after_collapse by_year) }
+    ensures refuted { ¬ YearsCollapse of_one_block both_cut (cut_by by_year)
+        (after_collapse by_year) }
+    ensures right { YearsCollapse of_one_block second_cut (cut_by by_year)
+        (after_collapse by_year) }
 {
     what_is_to_collapse_does::<Sample, u64>();
 }
