@@ -10,3 +10,4 @@ pub mod Cites
 pub mod Listed
 pub mod Marks
 pub mod Further
+pub mod Given

@@ -8,6 +8,7 @@
 
 pub mod cites;
 pub mod further;
+pub mod given;
 pub mod listed;
 pub mod marks;
 pub mod numbers;
