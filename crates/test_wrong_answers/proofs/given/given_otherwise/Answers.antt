@@ -7,11 +7,11 @@ use Rattle.csl_notes.specs.declared.notes.CiteNotes.{CiteNotes}
 use Rattle.csl_told_cites.specs.Arranging.{en_dash}
 use Rattle.test_wrong_answers.proofs.given.given_otherwise.Goals as goal
 
-chooses : DisambiguateState → Bool
+abbrev chooses : DisambiguateState → Bool
 chooses DisambiguateState.Choose = true
 chooses _ = false
 
-repeats : IbidState → Bool
+abbrev repeats : IbidState → Bool
 repeats IbidState.Ibid = true
 repeats _ = false
 
@@ -19,7 +19,8 @@ pub returns-clause-state : goal.returns-clause-state
 returns-clause-state c = λ h. true≢false (ap chooses h.state)
 
 pub returns-clause-nearness : goal.returns-clause-nearness
-returns-clause-nearness c = λ h. true≢false (sym (ap (λ (n : CiteNotes). n.is_near) (same_Some _ _ h.notes)))
+returns-clause-nearness c = λ h.
+    true≢false (sym (ap (λ (n : CiteNotes). n.is_near) (same_Some _ _ h.notes)))
 
 pub returns-clause-note : goal.returns-clause-note
 returns-clause-note c = λ h. none-some 7 (sym h.note_number)
