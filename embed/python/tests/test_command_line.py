@@ -34,7 +34,7 @@ def test_no_words_is_not_a_command_line():
     ['rendre'], ['render'], ['render', 'a', '--to', 'pdf'], ['styles', 'apa'], ['check'],
     ['render', 'a', '--depth'], ['render', 'a', '--depth', '-1'], ['check', 'a', '--elements', 'x'],
     ['check', 'a', '--elements', '18446744073709551616'], ['entries', 'a', '--depth', '1'],
-    ['entries'], ['entries', 'a', '--from', 'ris'], ['cite', 'a', 'b'],
+    ['entries'], ['entries', 'a', '--from', 'endnote'], ['cite', 'a', 'b'],
     ['cite', '--style', 'notes', 'a'], ['bibliography', '--style', 'notes'],
     ['cite', '--style', 'notes', 'a', 'b', '--standalone', '--to', 'text'],
     ['cite', '--style', '-', '-', 'b'], ['bibliography', '--style', 'notes', '-', '-'],
