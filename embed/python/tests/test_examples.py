@@ -8,7 +8,8 @@ import pytest
 
 import gamhilon
 
-NEED_THE_LIBRARY = {'gamhilon.csl.rendering', 'gamhilon.markdown_pages'}
+NEED_THE_LIBRARY = {'gamhilon.csl.rendering', 'gamhilon.csl.session', 'gamhilon.markdown_pages',
+                    'gamhilon.sessions'}
 TRIED_ELSEWHERE = {'gamhilon'}
 # (test_results.py tries that of documents by the model of the library too)
 
