@@ -68,6 +68,15 @@ _gamhilon() {
         bibliography:--most-bytes) _gamhilon_offer "$@" nothing ;;
         bibliography:--from) _gamhilon_offer "$@" words json csljson csl-json bibtex biblatex ris ;;
         bibliography:--references) _gamhilon_offer "$@" files ;;
+        explain:--locale) _gamhilon_offer "$@" nothing ;;
+        explain:--styles) _gamhilon_offer "$@" folders ;;
+        explain:--locales) _gamhilon_offer "$@" folders ;;
+        explain:--abbreviations) _gamhilon_offer "$@" files ;;
+        explain:--to) _gamhilon_offer "$@" words json html ;;
+        explain:--most-steps) _gamhilon_offer "$@" nothing ;;
+        explain:--most-bytes) _gamhilon_offer "$@" nothing ;;
+        explain:--from) _gamhilon_offer "$@" words json csljson csl-json bibtex biblatex ris ;;
+        explain:--references) _gamhilon_offer "$@" files ;;
         render:--to) _gamhilon_offer "$@" words text json ;;
         render:--depth) _gamhilon_offer "$@" nothing ;;
         render:--elements) _gamhilon_offer "$@" nothing ;;
@@ -78,6 +87,8 @@ _gamhilon() {
                 cite:*) _gamhilon_offer "$@" files ;;
                 bibliography:-*) _gamhilon_offer "$@" words --style --locale --styles --locales --abbreviations --to --standalone --nocite --draft --most-steps --most-bytes --from --references -h --help ;;
                 bibliography:*) _gamhilon_offer "$@" files ;;
+                explain:-*) _gamhilon_offer "$@" words --locale --styles --locales --abbreviations --to --most-steps --most-bytes --from --references -h --help ;;
+                explain:*) _gamhilon_offer "$@" styles ;;
                 session:-*) _gamhilon_offer "$@" words -h --help ;;
                 render:-*) _gamhilon_offer "$@" words --to --depth --elements -h --help ;;
                 render:*) _gamhilon_offer "$@" files ;;
@@ -89,7 +100,7 @@ _gamhilon() {
                 styles:*) _gamhilon_offer "$@" names ;;
                 css:-*) _gamhilon_offer "$@" words -h --help ;;
                 :-*) _gamhilon_offer "$@" words -h --help -V --version ;;
-                :* | help:*) _gamhilon_offer "$@" words cite bibliography session render check entries styles css help ;;
+                :* | help:*) _gamhilon_offer "$@" words cite bibliography explain session render check entries styles css help ;;
                 *) _gamhilon_offer "$@" nothing ;;
             esac
             ;;
