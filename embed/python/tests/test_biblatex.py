@@ -53,7 +53,7 @@ def test_works_are_read_as_pandoc_reads_them(reads):
     found = set()
     for key, other in theirs.items():
         if 'event' in other:
-            other['event-title'] = other['event']
+            other['event-title'] = other.pop('event')
         other['type'] = other['type'] or 'document'
         found |= {(key, name) for name in {*own[key], *other}
                   if own[key].get(name) != other.get(name)}

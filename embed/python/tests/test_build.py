@@ -36,7 +36,7 @@ exit {}
 
 CMAKE = '''cmake_minimum_required(VERSION 3.13)
 project(callers C)
-find_package(gamhilon 0.2 REQUIRED)
+find_package(gamhilon 0.3 REQUIRED)
 add_executable(shared {0})
 target_link_libraries(shared PRIVATE gamhilon::gamhilon)
 add_executable(static {0})
@@ -169,7 +169,7 @@ def test_the_wheel_alone_is_made_of_what_was_built(tree, tmp_path, monkeypatch, 
     name, = [name for name in os.listdir('embed/out') if name.endswith('.whl')]
     with zipfile.ZipFile(f'embed/out/{name}') as archive:
         assert archive.read('gamhilon/gamhilon_build.json') == b'{}\n'
-        assert 'gamhilon/references/biblatex.py' in archive.namelist()
+        assert 'gamhilon/references/by_library.py' in archive.namelist()
 
 
 @pytest.fixture
