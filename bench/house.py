@@ -1,5 +1,5 @@
 #!/usr/bin/env python3
-"""house.py [-v]: prints how the crates read, in figures: how many `requires` above csl_writers are
+"""house.py [-v]: prints how the crates read, in figures: how many `requires` above driver_writers are
 about rings of macros and about the places of cites, how many clauses and definitions are wider than
 100 columns, how many functions are longer than 40 lines, their contracts included, how many lines
 the proofs have, by crate, how many public names and lines of pages have a word that
@@ -73,12 +73,20 @@ def functions(path):
     for at, line in enumerate(lines):
         found = re.match(r'(\s*)(?:pub(?:\(crate\))? )?fn (\w+)', line)
         if found:
-            ends = (found.group(1) + '}', found.group(1) + '{}')
-            end = at
-            is_empty = line.endswith('{}')
-            while end + 1 < len(lines) and lines[end] not in ends and not is_empty:
-                end += 1
-            yield at + 1, found.group(2), end - at + 1
+            yield at + 1, found.group(2), length(lines, at, found.group(1))
+
+
+def length(lines, at, indent):
+    """How many lines the function has that begins at a line. A semicolon ends one without a body,
+    as a trait may have it."""
+    depth, has_body = 0, False
+    for end in range(at, len(lines)):
+        line = lines[end]
+        depth += sum(BRACKETS.get(letter, 0) for letter in line)
+        has_body |= line.startswith(indent) and line[len(indent)] != ' ' and line.endswith('{')
+        if line == indent + '}' or not has_body and depth == 0 and line.endswith((';', '{}')):
+            return end - at + 1
+    return len(lines) - at
 
 
 def unwanted_words():
@@ -192,7 +200,7 @@ def main():
         print(__doc__, file=sys.stderr)
         return 2
     below = dependencies()
-    higher = above('csl_writers', below) - {'csl_writing'}
+    higher = above('driver_writers', below) - {'csl_writing'}
     rings, places, wide, long_functions, definitions, proofs = [], [], [], [], [], {}
     for crate in below:
         for path in files(crate, 'src', '.rt'):
@@ -210,8 +218,8 @@ def main():
             definitions += [(path, at) for at, text in wide_lines
                             if len(text) > WIDTH and not text.startswith(('use ', 'pub use '))]
         proofs[crate] = sum(len(lines_of(path)) for path in files(crate, 'proofs', '.antt'))
-    report('requires on rings of macros, above csl_writers', rings, is_told)
-    report('requires on places of cites, above csl_writers', places, is_told)
+    report('requires on rings of macros, above driver_writers', rings, is_told)
+    report('requires on places of cites, above driver_writers', places, is_told)
     report('clauses wider than %d columns' % WIDTH, wide, is_told)
     report('lines of definitions wider than %d columns' % WIDTH, definitions, is_told)
     report('functions longer than %d lines' % LENGTH, long_functions, is_told)

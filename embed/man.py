@@ -21,7 +21,7 @@ import shell_completions
 from help_texts import Entry, HelpFault, Program
 
 HERE = os.path.dirname(os.path.abspath(__file__))
-SOURCE = f'{release.ROOT}/crates/gamhilon/src'
+SOURCE = f'{release.ROOT}/crates/program_files/src'
 PAGE = 'man/gamhilon.1'
 WIDTH = 78
 HEADER = '''.\\" Made by embed/man.py of what gamhilon --help says.

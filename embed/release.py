@@ -21,7 +21,7 @@ OUT = f'{HERE}/out'
 PROGRAMS = ('cite_run', 'gamhilon')
 CALLERS = {'gamhilon-print': 'print.c', 'gamhilon-cite': 'cite.c'}
 STYLES = f'{ROOT}/examples/styles'
-WORDS = f'{ROOT}/crates/english_locale/src/words.rt'
+WORDS = f'{ROOT}/crates/style_english/src/words.rt'
 # What comes with the program `gamhilon`, made by man.py.
 PAGES = {'share/man/man1/gamhilon.1': 'man/gamhilon.1',
          'share/bash-completion/completions/gamhilon': 'completions/gamhilon.bash',

@@ -77,9 +77,10 @@ _gamhilon() {
         explain:--most-bytes) _gamhilon_offer "$@" nothing ;;
         explain:--from) _gamhilon_offer "$@" words json csljson csl-json bibtex biblatex ris ;;
         explain:--references) _gamhilon_offer "$@" files ;;
-        render:--to) _gamhilon_offer "$@" words text json ;;
+        render:--to) _gamhilon_offer "$@" words text html markdown latex json ;;
         render:--depth) _gamhilon_offer "$@" nothing ;;
         render:--elements) _gamhilon_offer "$@" nothing ;;
+        check:--to) _gamhilon_offer "$@" words text json ;;
         entries:--from) _gamhilon_offer "$@" words json csljson csl-json bibtex biblatex ris ;;
         *)
             case $command:$current in
@@ -90,9 +91,9 @@ _gamhilon() {
                 explain:-*) _gamhilon_offer "$@" words --locale --styles --locales --abbreviations --to --most-steps --most-bytes --from --references -h --help ;;
                 explain:*) _gamhilon_offer "$@" styles ;;
                 session:-*) _gamhilon_offer "$@" words -h --help ;;
-                render:-*) _gamhilon_offer "$@" words --to --depth --elements -h --help ;;
+                render:-*) _gamhilon_offer "$@" words --to --standalone --link-citations --depth --elements -h --help ;;
                 render:*) _gamhilon_offer "$@" files ;;
-                check:-*) _gamhilon_offer "$@" words -h --help ;;
+                check:-*) _gamhilon_offer "$@" words --to --fail-on-warnings -h --help ;;
                 check:*) _gamhilon_offer "$@" files ;;
                 entries:-*) _gamhilon_offer "$@" words --from -h --help ;;
                 entries:*) _gamhilon_offer "$@" files ;;

@@ -74,11 +74,15 @@ complete -c gamhilon -n '__fish_seen_subcommand_from explain' -l references -r -
 complete -c gamhilon -n '__fish_seen_subcommand_from explain' -s h -l help -d 'Print help'
 complete -c gamhilon -n '__fish_seen_subcommand_from explain' -a '(__gamhilon_styles)'
 complete -c gamhilon -n '__fish_seen_subcommand_from session' -s h -l help -d 'Print help'
-complete -c gamhilon -n '__fish_seen_subcommand_from render' -l to -x -a 'text json' -d 'The form of what is written (text)'
+complete -c gamhilon -n '__fish_seen_subcommand_from render' -l to -x -a 'text html markdown latex json' -d 'The form of what is written (text)'
+complete -c gamhilon -n '__fish_seen_subcommand_from render' -l standalone -d 'A whole page of HTML'
+complete -c gamhilon -n '__fish_seen_subcommand_from render' -l link-citations -d 'Cites lead to their items, in HTML, Markdown and LaTeX'
 complete -c gamhilon -n '__fish_seen_subcommand_from render' -l depth -x -d 'How deep the elements of a layout may nest (100)'
 complete -c gamhilon -n '__fish_seen_subcommand_from render' -l elements -x -d 'How many elements a layout may have (100000)'
 complete -c gamhilon -n '__fish_seen_subcommand_from render' -s h -l help -d 'Print help'
 complete -c gamhilon -n '__fish_seen_subcommand_from render' -F
+complete -c gamhilon -n '__fish_seen_subcommand_from check' -l to -x -a 'text json' -d 'The form of what is said of files (text)'
+complete -c gamhilon -n '__fish_seen_subcommand_from check' -l fail-on-warnings -d 'A file with a warning counts as wrong'
 complete -c gamhilon -n '__fish_seen_subcommand_from check' -s h -l help -d 'Print help'
 complete -c gamhilon -n '__fish_seen_subcommand_from check' -F
 complete -c gamhilon -n '__fish_seen_subcommand_from entries' -l from -x -a 'json csljson csl-json bibtex biblatex ris' -d 'The form of references, in place of that of the file\'s ending or beginning'

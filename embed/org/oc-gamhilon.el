@@ -287,11 +287,12 @@ A style of numbers or labels writes none: another style writes them."
 ;;; What is exported
 
 (defun org-cite-gamhilon--is-note (requests info)
-  "Whether the style of INFO is one of notes: it gives REQUESTS numbers of notes."
+  "Whether the style of INFO is one of notes.
+It gives a citation of the first work of REQUESTS the number of a note then."
   (let* ((json-object-type 'alist)
          (json-array-type 'list)
-         (answer (json-read-from-string
-                  (org-cite-gamhilon--call "cite" "json" requests info))))
+         (asked (and requests `((((id . ,(cdr (assq 'id (caar requests)))))))))
+         (answer (json-read-from-string (org-cite-gamhilon--call "cite" "json" asked info))))
     (and (assq 'note_number (car (alist-get 'citations answer))) t)))
 
 (defun org-cite-gamhilon--note (citation kind info)

@@ -3,7 +3,7 @@
 variable of CSL 1.0.2 the modules that honour it.
 
 The names come from the crates: what each element may have from style_elements, the rest from
-csl_vocabulary. A module honours a name where its code has the field or the enum's variant that
+style_file. A module honours a name where its code has the field or the enum's variant that
 stands for it; TOKENS says which where the field isn't called like the attribute. DEFINITIONS names
 the definitions of what the driver decides; any other row has the first case of tests/writer whose
 style has the name. tests/docs/run.py holds the page to be what this prints."""
@@ -23,12 +23,13 @@ from cases import CASES
 PAGE = 'docs/MAP.md'
 READERS = ['style_reader', 'style_elements']
 # The writer of citations by style files, and what the driver does in the mode `csl`.
-PRODUCT = '''csl_texts cite_pieces cite_locale cite_numbers cite_dates cite_program cite_names cite_trees cite_walk cite_sorting
-cite_host cite_answer write_html write_forms cite_call gamhilon csl_telling csl_mentions csl_tables csl_notes csl_runs csl_blocks csl_shown csl_arranging
-csl_authors csl_cited_mentions csl_requested_mentions csl_told_cites csl_assembly csl_passes'''.split()
+PRODUCT = '''cite_texts cite_pieces cite_locale cite_dates cite_program cite_names cite_trees cite_walk cite_sorting
+cite_host cite_answer write_html write_forms cite_call program_files program_pages gamhilon mentions_names mentions_groups
+mentions_tables mentions_notes mentions_ranges mentions_blocks mentions_arranging mentions_authors mentions_cited mentions_cites
+driver_assembly driver_passes'''.split()
 # The writer of layouts in JSON, and what the driver does in the modes `three` and `full`.
-PORT = '''csl_lookup csl_styles csl_context csl_picking csl_writing csl_positions csl_ambiguity csl_name_marks csl_grouping
-csl_collapse csl_substitution csl_rounds csl_assembly csl_passes csl_driver'''.split()
+PORT = '''driver_lookup driver_styles layout_context layout_picking csl_writing driver_positions rounds_ambiguity rounds_names
+rounds_grouping rounds_substitution rounds_rendering driver_assembly driver_passes csl_driver'''.split()
 # Modules whose names of options are those of a call, and not of CSL.
 OF_CALLS = ('cite_call::calling', 'cite_call::options')
 # How many modules a row names at most: those that have the name most often.
@@ -142,52 +143,52 @@ TOKENS = {
 
 # The definitions of what the driver decides in the mode `csl`, and of what the port does.
 DEFINITIONS = {
-    'near-note-distance': 'csl_notes/specs/Notes',
-    'disambiguate-add-names': 'csl_telling/specs/Reaches csl_telling/specs/Told',
-    'disambiguate-add-givenname': 'csl_telling/specs/Reaches csl_telling/specs/Forms',
-    'givenname-disambiguation-rule': 'csl_telling/specs/ByDocument csl_telling/specs/Reaches',
-    'disambiguate-add-year-suffix': 'csl_mentions/specs/Suffixes',
-    'cite-group-delimiter': 'csl_arranging/specs/Order csl_blocks/specs/Blocks',
-    'collapse': 'csl_arranging/specs/Collapsing csl_blocks/specs/Collapsed',
-    'year-suffix-delimiter': 'csl_runs/specs/SuffixStretches',
-    'after-collapse-delimiter': 'csl_blocks/specs/Years csl_runs/specs/NumberRanges',
-    'subsequent-author-substitute': 'csl_authors/specs/Repeated',
-    'subsequent-author-substitute-rule': 'csl_authors/specs/Repeated csl_authors/specs/Substitution',
-    'second-field-align': 'csl_assembly/specs/BibliographyItems',
-    'layout@delimiter': 'csl_assembly/specs/CitationTree',
-    'disambiguate': 'csl_tables/specs/Tables',
-    'collapse=citation-number': 'csl_runs/specs/NumberRanges',
-    'collapse=year': 'csl_blocks/specs/Years',
-    'collapse=year-suffix': 'csl_runs/specs/SuffixStretches',
-    'collapse=year-suffix-ranged': 'csl_runs/specs/SuffixStretches',
-    'position=first': 'csl_notes/specs/Notes',
-    'position=ibid': 'csl_notes/specs/Repeats',
-    'position=ibid-with-locator': 'csl_notes/specs/Repeats',
-    'position=near-note': 'csl_notes/specs/Notes',
-    'position=far-note': 'csl_notes/specs/Notes',
-    'position=subsequent': 'csl_notes/specs/Notes',
-    'givenname-disambiguation-rule=by-cite': 'csl_telling/specs/Reaches',
-    **{'givenname-disambiguation-rule=' + it: 'csl_telling/specs/ByDocument'
+    'near-note-distance': 'mentions_notes/specs/Notes',
+    'disambiguate-add-names': 'mentions_names/specs/Reaches mentions_names/specs/Told',
+    'disambiguate-add-givenname': 'mentions_names/specs/Reaches mentions_names/specs/Forms',
+    'givenname-disambiguation-rule': 'mentions_names/specs/ByDocument mentions_names/specs/Reaches',
+    'disambiguate-add-year-suffix': 'mentions_groups/specs/Suffixes',
+    'cite-group-delimiter': 'mentions_arranging/specs/Order mentions_blocks/specs/Blocks',
+    'collapse': 'mentions_arranging/specs/Collapsing mentions_blocks/specs/Collapsed',
+    'year-suffix-delimiter': 'mentions_ranges/specs/SuffixStretches',
+    'after-collapse-delimiter': 'mentions_blocks/specs/Years mentions_ranges/specs/NumberRanges',
+    'subsequent-author-substitute': 'mentions_authors/specs/Repeated',
+    'subsequent-author-substitute-rule': 'mentions_authors/specs/Repeated mentions_authors/specs/Substitution',
+    'second-field-align': 'driver_assembly/specs/BibliographyItems',
+    'layout@delimiter': 'driver_assembly/specs/CitationTree',
+    'disambiguate': 'mentions_tables/specs/Tables',
+    'collapse=citation-number': 'mentions_ranges/specs/NumberRanges',
+    'collapse=year': 'mentions_blocks/specs/Years',
+    'collapse=year-suffix': 'mentions_ranges/specs/SuffixStretches',
+    'collapse=year-suffix-ranged': 'mentions_ranges/specs/SuffixStretches',
+    'position=first': 'mentions_notes/specs/Notes',
+    'position=ibid': 'mentions_notes/specs/Repeats',
+    'position=ibid-with-locator': 'mentions_notes/specs/Repeats',
+    'position=near-note': 'mentions_notes/specs/Notes',
+    'position=far-note': 'mentions_notes/specs/Notes',
+    'position=subsequent': 'mentions_notes/specs/Notes',
+    'givenname-disambiguation-rule=by-cite': 'mentions_names/specs/Reaches',
+    **{'givenname-disambiguation-rule=' + it: 'mentions_names/specs/ByDocument'
        for it in ('all-names', 'all-names-with-initials', 'primary-name', 'primary-name-with-initials')},
-    **{'subsequent-author-substitute-rule=' + it: 'csl_authors/specs/Repeated'
+    **{'subsequent-author-substitute-rule=' + it: 'mentions_authors/specs/Repeated'
        for it in ('complete-all', 'complete-each', 'partial-each', 'partial-first')},
-    **{'page-range-format' + it: 'csl_texts/specs/Pages'
+    **{'page-range-format' + it: 'cite_texts/specs/Pages'
        for it in ('', '=chicago', '=chicago-15', '=chicago-16', '=expanded', '=minimal', '=minimal-two')},
     'et-al-use-last': 'cite_names/specs/Cuts',
-    'year-suffix': 'csl_mentions/specs/Suffixes',
+    'year-suffix': 'mentions_groups/specs/Suffixes',
     'citation-number': 'csl_driver/specs/CslAnswer',
-    'first-reference-note-number': 'csl_notes/specs/Notes',
+    'first-reference-note-number': 'mentions_notes/specs/Notes',
 }
 
 # Modules that do the work of a name, and have another word for it.
 CODE = {
-    'disambiguate-add-givenname': 'csl_telling::reach',
-    'disambiguate-add-names': 'csl_telling::reach',
-    'position=near-note': 'csl_notes::notes',
-    'position=far-note': 'csl_notes::notes',
-    'collapse=citation-number': 'csl_runs::numbers',
-    'collapse=year-suffix': 'csl_runs::suffixes',
-    'collapse=year-suffix-ranged': 'csl_runs::suffixes',
+    'disambiguate-add-givenname': 'mentions_names::reach',
+    'disambiguate-add-names': 'mentions_names::reach',
+    'position=near-note': 'mentions_notes::notes',
+    'position=far-note': 'mentions_notes::notes',
+    'collapse=citation-number': 'mentions_ranges::numbers',
+    'collapse=year-suffix': 'mentions_ranges::suffixes',
+    'collapse=year-suffix-ranged': 'mentions_ranges::suffixes',
     'demote-non-dropping-particle': 'cite_names::parts',
     'et-al-use-last': 'cite_names::forms',
 }
@@ -212,8 +213,8 @@ ONLY_READ = ('LINK_RELATIONS', 'CITATION_FORMATS', 'FIELDS')
 
 # Where variables and terms are written that no code names.
 ANY = {'text': 'cite_walk::texts', 'number': 'cite_walk::numbers', 'date': 'cite_walk::dates', 'name': 'cite_walk::names'}
-ANY_IN_PORT = {'text': 'csl_picking::variables', 'number': 'csl_picking::variables', 'date': 'csl_picking::variables',
-               'name': 'csl_picking::names'}
+ANY_IN_PORT = {'text': 'layout_picking::variables', 'number': 'layout_picking::variables', 'date': 'layout_picking::variables',
+               'name': 'layout_picking::names'}
 
 
 @functools.lru_cache(None)
@@ -361,7 +362,7 @@ def attribute_rows():
 
 def port_variants(value, kind):
     """The variant that a document of the port names so, of an enum that is called like this."""
-    found = re.findall(r'\(\s*"%s",\s*((\w+)::\w+)' % re.escape(value), text_of('crates/json_values/src/tables.rt'))
+    found = re.findall(r'\(\s*"%s",\s*((\w+)::\w+)' % re.escape(value), text_of('crates/document_values/src/tables.rt'))
     alike = {'GivenNameRule': 'DisambiguationRule', 'SubstituteRule': 'SubsequentAuthorSubstituteRule', 'Match': 'ChooseMatch',
              'CitePosition': 'TestPosition'}
     return [name for name, enum in found if enum == alike.get(kind, kind)]
@@ -395,8 +396,8 @@ VARIABLES = [('text', 'TEXT_VARIABLES', 'STANDARD_VARIABLES'), ('number', 'NUMBE
 def variable_rows():
     yield '| Variable | Kind | Written by | Code of its own | Held by | In the port |'
     for kind, table, of_port in VARIABLES:
-        port = dict(rows_of('crates/json_values/src/tables.rt', of_port))
-        for name, variant in rows_of('crates/csl_vocabulary/src/variable.rt', table):
+        port = dict(rows_of('crates/document_values/src/tables.rt', of_port))
+        for name, variant in rows_of('crates/style_file/src/variable.rt', table):
             known = port.get(name) or port.get(name.lower())
             there = in_port(r'\b%s\b' % known) if known else []
             pattern = r'\bvariable="(?:[^"]* )?%s[ "]' % re.escape(name)
@@ -411,25 +412,25 @@ def kinds_of_terms():
     tables = [('variable.rt', 'NUMBER_VARIABLES', 'number'), ('variable.rt', 'NAME_VARIABLES', 'names'),
               ('item_type.rt', 'ITEM_TYPES', 'item type'), ('locator.rt', 'LOCATOR_TYPES', 'locator')]
     for file, table, kind in tables:
-        for name, _ in rows_of('crates/csl_vocabulary/src/' + file, table):
+        for name, _ in rows_of('crates/style_file/src/' + file, table):
             kinds.setdefault(name, []).append(kind)
     return kinds
 
 
 def term_rows():
     kinds = kinds_of_terms()
-    english = text_of('crates/english_locale/src/lib.rt') + ''.join(
-        text_of(os.path.relpath(it, ROOT)) for it in sorted(glob.glob(f'{ROOT}/crates/english_locale/src/*.rt')))
-    port = {**dict(rows_of('crates/json_values/src/tables.rt', 'LOCATORS')), **dict(rows_of('crates/json_values/src/tables.rt', 'OTHER_TERMS'))}
+    english = text_of('crates/style_english/src/lib.rt') + ''.join(
+        text_of(os.path.relpath(it, ROOT)) for it in sorted(glob.glob(f'{ROOT}/crates/style_english/src/*.rt')))
+    port = {**dict(rows_of('crates/document_values/src/tables.rt', 'LOCATORS')), **dict(rows_of('crates/document_values/src/tables.rt', 'OTHER_TERMS'))}
     labels = {'number': 'cite_walk::numbers', 'locator': 'cite_walk::numbers', 'names': 'cite_walk::names'}
     yield '| Term | Names | Written by | In English | In the port |'
-    for name, variant in rows_of('crates/csl_vocabulary/src/term.rt', 'PLAIN_TERMS'):
+    for name, variant in rows_of('crates/style_file/src/term.rt', 'PLAIN_TERMS'):
         own = in_product(r'\b%s\b' % variant)
         label = sorted({labels[it] for it in kinds.get(name, []) if it in labels})
         written = [*own, *(it for it in label if it not in own)] or ['cite_walk::texts']
         known = port.get(name.replace(' ', '-'))
         is_english = re.search(r'name=\\?"%s\\?"' % re.escape(name), english)
-        there = (in_port(r'\b%s\b' % known) or ['csl_lookup::lookup']) if known else []
+        there = (in_port(r'\b%s\b' % known) or ['driver_lookup::lookup']) if known else []
         yield '| `%s` | %s | %s | %s | %s |' % (name, ', '.join(kinds.get(name, [])) or '–', shown(written), 'yes' if is_english else 'no',
                                                shown(there))
     yield '| `ordinal-00` to `ordinal-99` | – | %s | %s | – |' % (shown(in_product(r'\bTermName::Ordinal\b')), 'yes')

@@ -13,7 +13,8 @@ whose output is LOG.
 
 The tree is copied, with the edits that are asked for in place of those of the gate, and `rt ci`
 tries them, the crates side by side: it takes over what an earlier run on this machine proved, and
-goes on where one was stopped. An edit passes where a goal of the crate refuses it: not where it
+goes on where one was stopped. (Where `rt ci` takes no names, they are tried over the libraries that
+it left in this tree: built.py.) An edit passes where a goal of the crate refuses it: not where it
 can't be applied or compiled, nor where a proof file only names what it took away, nor by a limit of
 the prover, since none of these says anything of a contract. edits.py says what an edit is, and
 proved.py how those are tried that all contracts allow.
@@ -25,6 +26,7 @@ import subprocess
 import sys
 import tempfile
 
+import built
 import proved
 from edits import PROVED, ROOT, Tree, crate_of, edits_here, edits_of_gate, named, record, records, why_not_applied
 
@@ -92,18 +94,24 @@ def copy_with_edits(to, wanted):
     os.mkdir(to + '/.git')
 
 
-def refused_by_prover(copy, wanted):
-    """Those of the edits that the prover refuses, telling what comes."""
-    copy_with_edits(copy, wanted)
+def lines_of_copy(wanted):
+    """What `rt ci` says of these edits in a copy of the tree."""
     # (under CI rt takes no names, since that would be no gate: here it tries edits in a copy)
     environment = {name: value for name, value in os.environ.items() if name != 'CI'}
-    ran = subprocess.Popen(['rt', 'ci', *sorted({crate_of(it) for it in wanted})], cwd=copy, text=True, errors='replace', env=environment,
-                           stdin=subprocess.DEVNULL, stdout=subprocess.PIPE, stderr=subprocess.STDOUT)
+    with tempfile.TemporaryDirectory(prefix='edits-') as copy:
+        copy_with_edits(copy, wanted)
+        ran = subprocess.Popen(['rt', 'ci', *sorted({crate_of(it) for it in wanted})], cwd=copy, text=True, errors='replace', env=environment,
+                               stdin=subprocess.DEVNULL, stdout=subprocess.PIPE, stderr=subprocess.STDOUT)
+        yield from ran.stdout
+        ran.wait()
+
+
+def refused_by_prover(wanted):
+    """Those of the edits that the prover refuses, with its words printed."""
     refused = set()
-    for line in ran.stdout:
+    for line in lines_of_copy(wanted) if built.takes_names() else built.lines_of_rt(wanted):
         print(line, end='', flush=True)
         refused.add(refused_by(line))
-    ran.wait()
     return refused & set(wanted)
 
 
@@ -118,8 +126,7 @@ def tried(wanted):
     sums = {key: tree.sum_of(key, path) for key, path in wanted.items()}
     refused = set()
     if by_prover:
-        with tempfile.TemporaryDirectory(prefix='edits-') as copy:
-            refused |= refused_by_prover(copy, by_prover)
+        refused |= refused_by_prover(by_prover)
     refused |= {key for key, path in by_tests.items() if proved.is_noticed(key, path)}
     left = set(wanted) - refused
     for key in sorted(left):

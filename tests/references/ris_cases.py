@@ -40,6 +40,13 @@ def test_a_record_of_a_book():
     assert lost == []
 
 
+def test_a_record_behind_blanks():
+    """The form of a file is told by its beginning, behind blanks; so lines may begin with them."""
+    read = loads('\n  TY  - BOOK\n  ID  - k\n\tTI  - A\n  ER  - \n', form='ris')
+    assert (read.items, read.losses, read.faults) == (
+        [{'id': 'k', 'type': 'book', 'title': 'A'}], [], [])
+
+
 @cases('tag, wanted', [
     ('PY  - 1999///Spring', {'date-parts': [[1999]], 'season': 1}),
     ('DA  - 2019-03-05', {'date-parts': [[2019, 3, 5]]}),

@@ -1,5 +1,5 @@
 """Styles and locales that are refused, and others that are read with warnings: what must be said of
-each, worked out by hand.
+each, worked out by hand. The folder mistakes has more.
 
 In a document `¦` stands at the place that must be told, and is taken out. Faults and warnings have
 their words."""
@@ -45,8 +45,6 @@ def locale(body):
 REFUSED = {
     # no XML
     'an end tag is missing': (HEAD + INFO + '¦', 'found the end of the text, wanted the end tag of `style`'),
-    'another end tag': (layout('<group>¦</grup>'), 'found `</grup>`, wanted the end tag of `group`'),
-    'an entity': (layout('<text value="¦&nbsp;"/>'), "found `&nbsp;\"/>`, wanted an entity that XML predefines, or a character's number"),
     # roots
     'another root': ('\n¦<html/>', 'found `html`, wanted the element `style` or `locale` of CSL'),
     'another namespace': (
@@ -59,37 +57,19 @@ REFUSED = {
     ),
     # what is missing
     'no info': ('¦' + style(info=''), 'found `style`, wanted an element `info` in it'),
-    'no title': (style(info=' ¦<info>\n  <id>i</id>\n </info>\n'), 'found `info`, wanted an element `title` in it'),
     'no id': (style(info=' ¦<info><title>T</title></info>\n'), 'found `info`, wanted an element `id` in it'),
-    'no citation': ('¦' + style(body=' <macro name="a"/>\n', citation=''), 'found `style`, wanted an element `citation` in it'),
     'a dependent style without its parent': (
         '¦' + style(citation=''),
         'found `style`, wanted an element `citation` in it, or a link to an independent parent',
     ),
     'no class': ('¦' + style(head=HEAD.replace(' class="in-text"', '')), 'found `style`, wanted an attribute `class` of it'),
-    'no layout': (style(citation=' ¦<citation/>\n'), 'found `citation`, wanted an element `layout` in it'),
     'no variable': (layout('¦<date form="text"/>'), 'found `date`, wanted an attribute `variable` of it'),
-    'no part of a date': (layout('¦<date variable="issued"/>'), 'found `date`, wanted an element `date-part` in it'),
     'no name of a part': (layout('<date variable="issued">¦<date-part/></date>'), 'found `date-part`, wanted an attribute `name` of it'),
-    'a branch without a condition': (layout('<choose>¦<if match="any"/></choose>'), 'found `if`, wanted a condition in it'),
-    'a choice without a branch': (layout('<group>¦<choose/></group>'), 'found `choose`, wanted an element `if` in it'),
-    'a text of nothing': (
-        layout('¦<text prefix="("/>'),
-        'found `text`, wanted exactly one of its attributes `variable`, `macro`, `term`, `value`',
-    ),
     'a link without its aim': (
         style(info=' <info><title>T</title><id>i</id>\n ¦<link rel="self"/></info>'),
         'found `link`, wanted an attribute `href` of it',
     ),
     # what is too much
-    'a text of two things': (
-        layout('¦<text variable="title" term="and"/>'),
-        'found `text`, wanted exactly one of its attributes `variable`, `macro`, `term`, `value`',
-    ),
-    'two layouts': (
-        style(citation=' <citation>\n  <layout/>\n  ¦<layout/>\n </citation>\n'),
-        'found `layout`, wanted no second element of its kind',
-    ),
     'two bibliographies': (
         style(body=' <bibliography><layout/></bibliography>\n ¦<bibliography><layout/></bibliography>\n'),
         'found `bibliography`, wanted no second element of its kind',
@@ -98,21 +78,12 @@ REFUSED = {
         layout('<names variable="author"><name><name-part name="given"/>\n¦<name-part name="given"/></name></names>'),
         'found `name-part`, wanted no second element of its kind',
     ),
-    'two macros of a name': (
+    'two macros of a name with an accent': (
         style(body=' <macro name="año"/><macro name="b"/><macro ¦name="año"/>\n'),
         'found `año`, wanted a name that no macro before has',
     ),
-    'a branch behind the last': (
-        layout('<choose><if type="book"/><else/>\n¦<else-if type="map"/></choose>'),
-        'found `else-if`, wanted in `choose` an `if`, then each `else-if`, then one `else` at most',
-    ),
     # elements and values that aren't known
-    'an unknown element': (layout('<group>¦<txt variable="title"/></group>'), 'found `txt`, wanted an element that `group` may contain, perhaps `text`'),
     'an element out of place': (layout('¦<layout/>'), 'found `layout`, wanted an element that `layout` may contain'),
-    'an unknown value': (
-        layout('<text ¦font-style="itallic" variable="title"/>'),
-        'found `itallic`, wanted a value of `font-style`, perhaps `italic`',
-    ),
     'no value': (layout('<text ¦quotes="" variable="title"/>'), 'found ``, wanted a value of `quotes`'),
     'a form of another part': (
         layout('<date variable="issued">\n<date-part name="year" ¦form="ordinal"/></date>'),
@@ -122,10 +93,6 @@ REFUSED = {
         layout('<choose><if ¦position="first lats"/></choose>'),
         'found `lats`, wanted a value of `position`',
     ),
-    'no number': (
-        layout('<names variable="author"><name ¦et-al-min="three"/></names>'),
-        'found `three`, wanted a whole number, 0 or more',
-    ),
     'a number that is too small': (
         style(body=' <bibliography ¦line-spacing="0"><layout/></bibliography>'),
         'found `0`, wanted a whole number, 1 or more',
@@ -134,33 +101,13 @@ REFUSED = {
         layout('<names variable="author"><name ¦et-al-min="4294967296"/></names>'),
         'found `4294967296`, wanted a whole number, 4294967295 or less',
     ),
-    'a date as text': (layout('<text ¦variable="issued"/>'), 'found `issued`, wanted a text or number variable'),
     'a text as number': (layout('<number ¦variable="title"/>'), 'found `title`, wanted a number variable'),
     'a name among dates': (layout('<choose><if ¦is-uncertain-date="author"/></choose>'), 'found `author`, wanted a date variable'),
-    'a text as names': (layout('<names ¦variable="author title"/>'), 'found `title`, wanted a name variable'),
+    'a text among names': (layout('<names ¦variable="author title"/>'), 'found `title`, wanted a name variable'),
     # macros
-    'a macro that is missing': (
-        style(body=' <macro name="author-short"/>\n', citation=LAYOUT.replace('variable="title"', '¦macro="autor-short"')),
-        'found `autor-short`, wanted the name of a macro, perhaps `author-short`',
-    ),
-    'a macro that a key misses': (
-        style(citation=' <citation><sort>\n<key ¦macro="year"/></sort><layout/></citation>\n'),
-        'found `year`, wanted the name of a macro',
-    ),
     'a macro that an unused one misses': (
         style(body=' <macro name="a"><choose><if type="book"><text ¦macro="c"/></if></choose></macro>\n'),
         'found `c`, wanted the name of a macro',
-    ),
-    'a macro that calls itself': (
-        style(body=' <macro name="a"/>\n <macro name="b"><text macro="a"/>\n  <group><text ¦macro="b"/></group></macro>\n'),
-        "found `b`, wanted a macro that doesn't lead back to this one",
-    ),
-    'a ring of macros': (
-        style(
-            body=' <macro name="a"><text macro="b"/></macro>\n <macro name="b"><text ¦macro="c"/></macro>\n'
-            ' <macro name="c"><text macro="d"/><text macro="b"/></macro>\n <macro name="d"/>\n'
-        ),
-        "found `c`, wanted a macro that doesn't lead back to this one",
     ),
     'a ring that one leads to, by a second call': (
         macros(
@@ -223,7 +170,6 @@ REFUSED = {
 }
 
 WARNED = {
-    'an attribute': (layout('<text variable="title" ¦fontstyle="italic"/>'), 'unknown attribute `fontstyle` of `text`, perhaps `font-style`'),
     'a variable': (layout('<text ¦variable="custom"/>'), 'unknown variable `custom`'),
     'a variable of several': (layout('<choose><if ¦variable="title isued"/></choose>'), 'unknown variable `isued`, perhaps `issued`'),
     'a type': (layout('<choose><if ¦type="boook"/></choose>'), 'unknown item type `boook`, perhaps `book`'),

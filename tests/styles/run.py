@@ -7,7 +7,9 @@ citation-style-language-locales, is read, with no warning but those of EXPLAINED
 says by xml.etree (said.py: each element with all its values); packages that aren't installed are
 named. So do files with all names of CSL 1.0.2 (tests/csl_names.py). The files of broken.py are
 refused, or warned of, at their places and in their words, or just allowed, and read in 1 MiB of
-stack where they nest as deep as is read. N files (3000, if not said) are made by changes of others,
+stack where they nest as deep as is read. mistakes/ has forty styles, ten each with a mistake of XML,
+of elements, of attributes and of macros, and beside each the lines that `gamhilon check` prints; as
+JSON it has the same places and words. N files (3000, if not said) are made by changes of others,
 drawn by the seed: each is refused at a place of the text, or read; with no warning it says what it
 says by xml.etree. Each growth of memory is refused in turn (tests/documents/refuse.c, for which a C
 compiler must be there). Four times as much takes about four times as long, and the packages' files
@@ -18,6 +20,7 @@ import argparse
 import collections
 import glob
 import hashlib
+import json
 import os
 import re
 import resource
@@ -43,6 +46,10 @@ PACKAGES = {'styles': '*.csl', 'locales': '*.xml'}
 # Warnings on the packages' files, by what they say without names: how often, and why that is right.
 EXPLAINED = {}
 NAMED = re.compile('`[^`]*`')
+MISTAKES = {'xml': 10, 'elements': 10, 'attributes': 10, 'macros': 10}
+TOLD_LINE = re.compile(r'([^:\n]+):(\d+):(\d+): (error|warning): (.*)')
+# What a style of mistakes/ is, where it is read.
+LAKES = 'independent style Journal of Lakes (https://example.org/styles/journal-of-lakes)'
 MOST_MEMORY = 1 << 30
 MOST_STACK = 1 << 20
 SECONDS = 120
@@ -223,7 +230,7 @@ def program(programs):
     with tempfile.TemporaryDirectory(prefix='styles-') as folder:
         for name in os.listdir(HERE + '/documents'):
             shutil.copy(HERE + '/documents/' + name, folder)
-        odd, broken_one = placed(WARNED['a variable'][0]), placed(REFUSED['an unknown element'][0])
+        odd, broken_one = placed(WARNED['a variable'][0]), placed(REFUSED['an element out of place'][0])
         for name, data in ('odd.csl', odd[0]), ('broken.csl', broken_one[0]), ('bytes.csl', b'<style\n>\xff</style>'):
             with open(folder + '/' + name, 'wb') as file:
                 file.write(data)
@@ -232,7 +239,7 @@ def program(programs):
         parent = 'journal.csl: dependent style of https://example.org/styles/notes\n'
         locale = 'words.xml: locale de-AT\n'
         warning = 'odd.csl:%d:%d: warning: %s\n' % (*odd[1:], WARNED['a variable'][1])
-        error = in_lines('broken.csl', broken_one[0].decode(), [broken_one[1:]], [REFUSED['an unknown element'][1]])
+        error = in_lines('broken.csl', broken_one[0].decode(), [broken_one[1:]], [REFUSED['an element out of place'][1]])
         no_text = 'bytes.csl:2:2: error: found `\\xff`, wanted UTF-8\n'
         it = (programs, folder)
         program_is(*it, ['notes.csl', 'journal.csl', 'words.xml'], 0, notes + parent + locale, '')
@@ -240,6 +247,25 @@ def program(programs):
         program_is(*it, ['broken.csl', 'words.xml'], 2, locale, error)
         program_is(*it, ['bytes.csl'], 2, '', no_text)
         program_is(*it, ['none.csl', 'broken.csl'], 1, '', 'none.csl: No such file or directory (os error 2)\n' + error)
+
+
+def mistakes(programs, kind):
+    """The program prints the lines beside each style of a folder of mistakes/, and ends with status
+    2 where warnings count; as JSON it says the same."""
+    folder = '%s/mistakes/%s' % (HERE, kind)
+    names = sorted(it for it in os.listdir(folder) if it.endswith('.csl'))
+    texts = [read('%s/%s.txt' % (folder, it[:-4])).decode() for it in names]
+    if len(names) != MISTAKES[kind]:
+        raise Failed('%d styles' % len(names))
+    for name, text in zip(names, texts):
+        out = '' if ': error: ' in text else '%s: %s\n' % (name, LAKES)
+        program_is(programs, folder, ['--fail-on-warnings', name], 2, out, text)
+    wanted = [[(line, column, severity, words) for _, line, column, severity, words in TOLD_LINE.findall(it)] for it in texts]
+    done = subprocess.run([programs.gamhilon, 'check', '--to', 'json', *names], cwd=folder, capture_output=True, timeout=SECONDS)
+    files = json.loads(done.stdout)
+    told = [[(str(it['line']), str(it['column']), it['severity'], it['message']) for it in file['findings']] for file in files]
+    if done.stderr or [it['file'] for it in files] != names or told != wanted:
+        raise Failed('%r %s' % (done.stderr, [(a, b) for a, b in zip(told, wanted) if a != b]))
 
 
 # Mutated files
@@ -384,6 +410,7 @@ def tests_of(given):
     tests.append(('names of CSL', names_of_csl))
     tests.append(('gamhilon check', program))
     tests.append(('several faults', several))
+    tests += [('mistakes: ' + kind, mistakes, kind) for kind in MISTAKES]
     tests.append(('mutated files', mutations, given.mutate, given.seed))
     for path in own_documents():
         tests.append(('growths of memory: ' + os.path.basename(path), refused_in_turn, read(path)))

@@ -132,6 +132,15 @@ def calling(count, calls):
             '"requests": [{"style": "s", "items": [{"entry": "a"}]}], "bibliography": {"style": "s"}}' % ', '.join(macros))
 
 
+def shown(*files):
+    """What `check --to json` prints of these files."""
+    return json.dumps(files, ensure_ascii=False, separators=(',', ':'), sort_keys=True) + '\n'
+
+
+def finding(severity, message, **place):
+    return {'severity': severity, 'message': message, **place}
+
+
 class Fault:
     """What is called, with these files beside the usual ones, and what comes of it."""
 
@@ -181,6 +190,46 @@ def rendered(name, status, lines, document, out='', words=()):
 TWO = {'s.csl': style_of('<text variable="title"/>'), 'c.json': '[[{"id": "b"}]]',
        'r.json': '[{"id": "a", "type": "book", "title": "A"}, {"id": "b", "type": "book", "title": "B"}]'}
 
+# What `check --to json` says of a file: its text, the status, and the members beside the name of the file.
+WHOLE = {'kind': 'independent style', 'title': 'T', 'id': 'T', 'findings': []}
+ODD_ENTRIES = '@book{a, title = {A}}\n@book{a, title = {B}}\n'
+CHECKED = [
+    ('a style', STYLE, 0, WHOLE),
+    ('a style with two faults', STYLE.replace('class="in-text"', 'class="text"').replace('<text variable="title"/>', '<txt variable="title"/>'),
+     2, {'findings': [finding('error', 'found `text`, wanted a value of `class`', line=1, column=48),
+                      finding('error', 'found `txt`, wanted an element that `layout` may contain, perhaps `text`', line=3, column=19)]}),
+    ('a style with two warnings', STYLE.replace('variable="title"', 'variable="titel" colour="red"'), 0,
+     {**WHOLE, 'findings': [finding('warning', 'unknown variable `titel`, perhaps `title`', line=3, column=25),
+                            finding('warning', 'unknown attribute `colour` of `text`', line=3, column=42)]}),
+    ('a style that exceeds its limits', of_macros('<text macro="m0"/>', '<names variable="author"/>' * 2001), 10,
+     {'findings': [finding('error', STEPS % 10000, line=3, column=1)]}),
+    ('a dependent style', DEPENDENT, 0, {'kind': 'dependent style', 'title': 'D', 'id': 'D', 'parent': 'http://www.zotero.org/styles/s',
+                                         'findings': []}),
+    ('a locale with a warning', LOCALE.replace('name="and"', 'name="andd"'), 0,
+     {'kind': 'locale', 'language': 'de-DE', 'findings': [finding('warning', 'unknown term `andd`, perhaps `and`', line=1, column=93)]}),
+    ('references with warnings', '[{"id": "a", "type": "book", "titel": "A"}, {"id": 7}]', 0,
+     {'kind': 'references', 'count': 2, 'findings': [
+         finding('warning', 'unknown key, left out; is it `title`? (item `a`)', pointer='/0/titel'),
+         finding('warning', 'no type, taken for a document (item `7`)', pointer='/1')]}),
+    ('references with a fault', '[{"id": "a", "author": [7]}]', 2,
+     {'findings': [finding('error', 'found a number, wanted a name, which is an object or a text (item `a`)', pointer='/0/author/0')]}),
+    ('references that are no JSON', '[\n}', 2, {'findings': [finding('error', "no JSON: `}` can't stand here: `}`", line=2, column=1)]}),
+    ('BibTeX that breaks off', '@book{a, title = {A}}\n@book{b, title = {B\n', 0,
+     {'kind': 'references', 'count': 2, 'findings': [
+         finding('warning', 'a value without an end: the rest of the entry is left out', line=2, column=18)]}),
+    ('citations with a warning', '[[{"id": "a", "colour": "red"}]]', 0,
+     {'kind': 'citations', 'count': 1, 'findings': [finding('warning', 'unknown key, left out', pointer='/0/0/colour')]}),
+    ('citations with a fault', '[[7]]', 2, {'findings': [finding('error', 'wanted a cite, which is an object', pointer='/0/0')]}),
+    ('a document', DOCUMENT, 0, {'kind': 'document', 'findings': []}),
+    ('a document with a fault', DOCUMENT.replace('"style": "s"', '"style": "t"'), 2,
+     {'findings': [finding('error', 'found a text, wanted the name of a style that is there', pointer='/bibliography/style')]}),
+    ('what is no kind', '7', 2, {'findings': [finding('error', 'found `7`, wanted the element of the document', line=1, column=1)]}),
+    ('an empty file', '', 2, {'findings': [finding('error', 'found the end of the text, wanted the element of the document', line=1, column=1)]}),
+    ('what is no text', b'<a\n\xff/>', 2, {'findings': [finding('error', 'found `\\xff`, wanted UTF-8', line=2, column=1)]}),
+    ('a title with characters that are no letters', STYLE.replace('<title>T', '<title>T \t\u202eT'), 0,
+     {**WHOLE, 'title': 'T \t\u202eT'}),
+]
+
 FAULTS = [
     # Command lines
     usage('no word', "'gamhilon' requires a subcommand but one was not provided [subcommands: cite, bibliography, explain, session, render, check, entries, styles, css, help]"),
@@ -206,7 +255,9 @@ FAULTS = [
     usage('an option of check', "unexpected argument '--all' found; tip: to pass '--all' as a value, use '-- --all'", 'check', '--all'),
     usage('no document', 'the following required arguments were not provided: <DOCUMENT>', 'render'),
     usage('two documents', "unexpected argument 'b' found", 'render', 'a', 'b'),
-    usage('a document as HTML', "invalid value 'html' for '--to <FORMAT>' [possible values: text, json]", 'render', '--to', 'html', 'a'),
+    usage('a document of an unknown form', "invalid value 'pdf' for '--to <FORMAT>' [possible values: text, html, markdown, latex, json]",
+          'render', '--to', 'pdf', 'a'),
+    usage('a page of the text of a document', '`--standalone` makes a page of HTML alone', 'render', '--to', 'text', '--standalone', 'a'),
     usage('a limit that is no number', "invalid value 'x' for '--depth <N>': invalid digit found in string", 'render', '--depth', 'x', 'a'),
     usage('a limit above all', "invalid value '18446744073709551616' for '--elements <N>': number too large to fit in target type", 'render',
           '--elements', '18446744073709551616', 'a'),
@@ -549,6 +600,22 @@ FAULTS = [
     rendered('as many elements as may be', 0, [], calling(3, 2), out='xxxx\n', words=['--elements', '11']),
     rendered('an element too many', 8, ['FILE/d.json: error: a layout has more elements than 10 (--elements raises the limit)'],
              calling(3, 2), words=['--elements', '10']),
+    # Documents as HTML, Markdown and LaTeX
+    rendered('a document as HTML', 0, [], TITLES % '', out=BOTH, words=['--to', 'html']),
+    rendered('a document as HTML with links', 0, [], TITLES % '', words=['--to', 'html', '--link-citations'],
+             out=BOTH.replace('"citation">A<', '"citation"><a href="#ref-a">A</a><')),
+    rendered('a document as a page', 0, [], TITLES % '', out=page('Citations', BOTH), words=['--standalone']),
+    rendered('a document as a page in its language', 0, [], (TITLES % '').replace('{"style": "s"}}', '{"style": "s", "locale": "ar"}}'),
+             out=page('Citations', BOTH, 'ar', 'rtl'), words=['--standalone']),
+    rendered('a document as Markdown with links', 0, [], TITLES % '', words=['--to', 'markdown', '--link-citations'],
+             out='[A](#ref-a)\n\n<div id="ref-a" class="csl-entry">\n\nA\n\n</div>\n'),
+    rendered('a document as LaTeX with links', 0, [], TITLES % '', words=['--to', 'latex', '--link-citations'],
+             out='\\hyperlink{ref-a}{A}\n\n\\noindent \\hypertarget{ref-a}{}A\\par\n\n'),
+    rendered('a document without a bibliography as HTML', 0, [], calling(1, 1), words=['--to', 'html', '--link-citations'],
+             out='<section class="citations">\n<p class="citation">x</p>\n</section>\n'),
+    rendered('a document as HTML that has no answer', 7,
+             ['FILE/d.json: error: the elements of a layout nest deeper than 100 (--depth raises the limit)'], calling(100, 1),
+             words=['--to', 'html']),
     # The command check
     Fault('check', ['check', 'FILE/s.csl'], 0, [], out='FILE/s.csl: independent style T (T)\n'),
     Fault('check of two', ['check', 'FILE/r.json', 'FILE/s.csl'], 0, [], TWO, out='FILE/r.json: 2 references\n'
@@ -588,4 +655,31 @@ FAULTS = [
     Fault('check of an empty file', ['check', 'FILE/n'], 2, ['FILE/n:1:1: error: …', '    ', '    ^'], {'n': ''}),
     Fault('check of what is no text', ['check', 'FILE/n'], 2, ['FILE/n:2:1: error: …'], {'n': b'<a\n\xff/>'}),
     Fault('check of nothing', ['check', 'FILE/none.csl', 'FILE/n'], 1, ['FILE/none.csl: …', 'FILE/n:1:1: error: …', '    7', '    ^'], {'n': '7'}),
+    # The command check, as JSON
+    Fault('check as text', ['check', '--to', 'text', 'FILE/s.csl'], 0, [], out='FILE/s.csl: independent style T (T)\n'),
+    *(Fault('check as JSON of ' + name, ['check', '--to', 'json', 'FILE/f'], status, [], {'f': text}, out=shown({'file': 'FILE/f', **wanted}))
+      for name, text, status, wanted in CHECKED),
+    Fault('check as JSON of several files, one of which is not there', ['check', '--to', 'json', 'FILE/none', 'FILE/s.csl', 'FILE/n'], 1, [],
+          {'n': '[7]'}, out=shown(
+              {'file': 'FILE/none', 'findings': [finding('error', 'No such file or directory (os error 2)')]}, {'file': 'FILE/s.csl', **WHOLE},
+              {'file': 'FILE/n', 'findings': [finding('error', 'found a number, wanted an item, which is an object', pointer='/0')]})),
+    Fault('check as JSON of BibTeX', ['check', '--to=json', 'FILE/l.bib'], 0, [], {'l.bib': ODD_ENTRIES}, out=shown(
+        {'file': 'FILE/l.bib', 'kind': 'references', 'count': 1, 'findings': [
+            finding('warning', 'a second item of this id, left out', entry='a', field='id')]})),
+    Fault('check as JSON of the standard input', ['check', '--to', 'json', '-'], 0, [], given=CITATIONS, out=shown(
+        {'file': '-', 'kind': 'citations', 'count': 1, 'findings': []})),
+    usage('a check as HTML', "invalid value 'html' for '--to <FORMAT>' [possible values: text, json]", 'check', '--to', 'html', 'FILE/s.csl'),
+    # Warnings that count
+    Fault('no warning to fail on', ['check', '--fail-on-warnings', 'FILE/s.csl'], 0, [], out='FILE/s.csl: independent style T (T)\n'),
+    Fault('a warning to fail on', ['check', '--fail-on-warnings', 'FILE/r.json', 'FILE/s.csl'], 2,
+          ['FILE/r.json: warning: /0: no type, taken for a document (item `a`)'], {'r.json': '[{"id": "a"}]'},
+          out='FILE/r.json: 1 reference\nFILE/s.csl: independent style T (T)\n'),
+    Fault('a warning to fail on, as JSON', ['check', '--fail-on-warnings', '--to', 'json', 'FILE/r.json'], 2, [], {'r.json': '[{"id": "a"}]'},
+          out=shown({'file': 'FILE/r.json', 'kind': 'references', 'count': 1, 'findings': [
+              finding('warning', 'no type, taken for a document (item `a`)', pointer='/0')]})),
+    Fault('a warning to fail on, and no file', ['check', '--fail-on-warnings', 'FILE/r.json', 'FILE/none'], 1,
+          ['FILE/r.json: warning: …', 'FILE/none: …'], {'r.json': '[{"id": "a"}]'}, out='FILE/r.json: 1 reference\n'),
+    Fault('a warning of a style that exceeds its limits', ['check', '--fail-on-warnings', 'FILE/s.csl'], 10,
+          ['FILE/s.csl:3:24: warning: unknown attribute `colour` of `text`', 'FILE/s.csl:3:1: error: …'],
+          {'s.csl': of_macros('<text macro="m0"/>', '<text colour="red" variable="title"/>' + '<names variable="author"/>' * 2001)}),
 ]

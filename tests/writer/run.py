@@ -11,7 +11,7 @@ said), of which one is changed by changes drawn by the seed (mutations.py): each
 refused with a line, and takes at most two seconds and 500 MB; Markdown and LaTeX, beside those of
 the Python package and what pandoc reads of them where it is installed (forms.py); which element of
 a style wrote each text (explained.py); and runs in three styles, of items in Markdown and LaTeX, of
-`explain` and of `render`, of which each growth of memory is refused in turn
+`explain`, `render` and `check`, of which each growth of memory is refused in turn
 (tests/documents/refuse.c, for which a C compiler must be there, and a program that brings no memory
 of its own, as that of `rt try` does). The last line is 'N passed, M failed', and the exit status is 1 where a test failed."""
 import argparse
@@ -111,7 +111,7 @@ def try_fault(program, fault):
 def try_help(program):
     """Help and version are on standard output, and help has an example."""
     for words in (['--help'], ['help'], ['cite', '-h'], ['bibliography', '--help'], ['render', '-h'], ['styles', '-h'],
-                  ['explain', '-h']):
+                  ['explain', '-h'], ['check', '-h']):
         status, out, error = ended(program, *words)
         if status or error or '\nUsage: gamhilon' not in out or '\nExample: ' not in out:
             raise Failed('%s: status %d, %r, %r' % (' '.join(words), status, out[:80], error))
@@ -122,7 +122,9 @@ def try_help(program):
 
 def try_closed_pipe(program):
     """Where nobody reads the answer, as behind `| head -0`, the command ends without a line."""
-    for words in (['styles'], ['explain', 'author-date'], ['cite', '--help']):
+    document = ROOT + '/examples/author_date.json'
+    for words in (['styles'], ['explain', 'author-date'], ['cite', '--help'], ['render', document],
+                  ['render', '--to', 'html', document]):
         reading, writing = os.pipe()
         os.close(reading)
         with os.fdopen(writing, 'wb') as pipe:
@@ -396,7 +398,10 @@ def tests_of(options):
     for form in ('json', 'html'):
         tests.append(('growths of memory: explain as ' + form, refused_in_turn,
                       ['explain', '--to', form, pandoc.STYLES[0], 'r.json', 'c.json']))
-    tests.append(('growths of memory: render', refused_in_turn, ['render', ROOT + '/examples/author_date.json']))
+    for form in ('text', 'html'):
+        tests.append(('growths of memory: render as ' + form, refused_in_turn,
+                      ['render', '--to', form, ROOT + '/examples/author_date.json']))
+    tests.append(('growths of memory: check as JSON', refused_in_turn, ['check', '--to', 'json', pandoc.STYLES[0], 'r.json', 'c.json']))
     tests.append(('the standard input in packets', try_packets))
     tests += [('growth: ' + name, try_growth, cites_with_notes(note)) for name, note in NOTES.items()]
     tests.append(('growth: ids that collide', try_growth, cites_that_collide))

@@ -3,10 +3,10 @@ use crate::rendered::{note_of, rendered_citation, rendered_item, rendered_of};
 use cite_host::answer::{Answer, ListedItem};
 use cite_host::cites::Citation;
 use cite_pieces::pieces::Pieces;
-use csl_texts::quotes::QuoteMarks;
-use json_answer::printing;
+use cite_texts::quotes::QuoteMarks;
 use std::alloc::{AllocError, Global};
 use style_file::style::CslStyle;
+use write_json::printing;
 
 /// The answer to these citations as JSON, without spaces between its parts. Quotes have their marks
 /// as text. In a style of notes each citation has the number of its note; where it names none, that

@@ -2,13 +2,15 @@
 use cite_host::answer::{Answer, ListedItem};
 use cite_host::cites::Citation;
 use cite_pieces::pieces::Pieces;
+use cite_texts::quotes::QuoteMarks;
 use cite_trees::shown::shown_tree;
-use csl_assembly::rendered::{BibliographyItem, Rendered, RenderedBibliography, RenderedCitation};
 use csl_base::elem::{Elem, ElemChild, ElemChildren};
 use csl_base::seq::Seq;
 use csl_base::style as tree;
 use csl_base::text::Text;
-use csl_texts::quotes::QuoteMarks;
+use driver_assembly::rendered::{
+    BibliographyItem, Rendered, RenderedBibliography, RenderedCitation,
+};
 use std::alloc::{AllocError, Global};
 use std::num::NonZeroI16;
 use style_file::sections::{BibliographyOptions, SecondFieldAlign};

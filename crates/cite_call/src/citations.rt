@@ -9,7 +9,7 @@ use cite_json::fault::CitationsError;
 use cite_json::notes::number_notes;
 use cite_json::reading::{ReadCitations, read_citations};
 use cite_json::unknown::{KnownItems, UnknownItem, unknown_items, with_missing};
-use csl_references::reference::References;
+use reference_values::reference::References;
 use std::alloc::{AllocError, Global};
 
 impl TextReader {

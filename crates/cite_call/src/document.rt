@@ -5,7 +5,7 @@ use crate::styling::Styling;
 use crate::texts::CallTexts;
 use cite_host::cites::Citation;
 use cite_json::listing::uncited;
-use csl_references::reference::References;
+use reference_values::reference::References;
 
 /// What the texts of a call say.
 #[derive(Drop)]

@@ -5,13 +5,13 @@ use crate::options::CallOptions;
 use crate::reader::TextReader;
 use crate::remark::TextPlace;
 use crate::texts::TextName;
-use csl_json::fault::{Fault, ReferencesError};
-use csl_json::reading::{read_references, read_sound_references};
-use csl_references::reference::References;
 use reference_files::form::ReferenceForm;
 use reference_files::reading::read_file;
 use reference_items::json::json_of;
 use reference_items::reading::ReadItems;
+use reference_json::fault::{Fault, ReferencesError};
+use reference_json::reading::{read_references, read_sound_references};
+use reference_values::reference::References;
 use std::alloc::{AllocError, Global};
 
 /// The language of entries that say none, where the options name none.

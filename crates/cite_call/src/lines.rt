@@ -1,6 +1,6 @@
 //! Answers as lines.
 use cite_host::answer::Answer;
-use csl_texts::quotes::QuoteMarks;
+use cite_texts::quotes::QuoteMarks;
 use std::alloc::{AllocError, Global};
 use write_forms::forms::{Form, written};
 use write_forms::items::written_item;

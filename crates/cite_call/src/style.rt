@@ -4,11 +4,11 @@ use crate::reader::TextReader;
 use crate::remark::{Fault, ParentStyle, Remark, TextPlace};
 use crate::texts::TextName;
 use std::alloc::{AllocError, Global};
-use style_faults::error::StyleError;
-use style_faults::warning::Warning;
+use style_elements::error::StyleError;
+use style_elements::warning::Warning;
 use style_file::style::{CslStyle, DependentStyle, StyleFile};
 use style_reader::file::{faults_in_file, read_style};
-use xml_reader::error::{Place, place_at};
+use style_xml::error::{Place, place_at};
 
 impl TextReader {
     /// The style of a style file.

@@ -8,7 +8,7 @@ use cite_host::kept::KeptTexts;
 use cite_host::limits::check_style;
 use cite_locale::chain::LocaleChain;
 use cite_locale::tags::usual_tag;
-use csl_references::reference::References;
+use reference_values::reference::References;
 use std::alloc::{AllocError, Global};
 use style_file::locale::LocaleFile;
 use style_file::style::CslStyle;

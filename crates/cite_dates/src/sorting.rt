@@ -1,5 +1,5 @@
 //! Dates as texts that sort as the dates do (CSL 1.0.2, "Sorting").
-use csl_references::date::{Date, DateSpan, PartialDate, YearPart};
+use reference_values::date::{Date, DateSpan, PartialDate, YearPart};
 use std::alloc::{AllocError, Global};
 
 /// A date by so many of its parts: 1 for the year alone, 3 for year, month and day. Texts of

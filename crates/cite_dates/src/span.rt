@@ -1,6 +1,6 @@
 //! Where the dates of a range differ.
 use crate::layout::{PartLayout, Unit};
-use csl_references::date::{Day, Month, PartialDate, YearPart};
+use reference_values::date::{Day, Month, PartialDate, YearPart};
 
 /// The parts that both dates of a range write: those before `begin` and from `end` on they share.
 #[derive(Clone, Copy)]

@@ -1,10 +1,10 @@
 //! The texts of the parts of a date.
 use crate::layout::PartForm;
 use cite_locale::chain::LocaleChain;
-use csl_references::date::{Day, Month, PartialDate, Season, YearPart};
-use csl_vocabulary::term::{PlainTerm, TermForm};
+use reference_values::date::{Day, Month, PartialDate, Season, YearPart};
 use std::alloc::{AllocError, Global};
 use style_file::date::{DayForm, MonthForm, YearForm};
+use style_file::term::{PlainTerm, TermForm};
 
 /// The last year behind which `AD` stands.
 const LAST_YEAR_OF_AD: i32 = 999;

@@ -6,7 +6,7 @@ use crate::text::part_text;
 use cite_locale::chain::LocaleChain;
 use cite_pieces::output::{Element, Output, element_with};
 use cite_pieces::piece::Mark;
-use csl_references::date::{Date, DateSpan, PartialDate};
+use reference_values::date::{Date, DateSpan, PartialDate};
 use std::alloc::{AllocError, Global};
 use style_file::date;
 

@@ -23,8 +23,8 @@ use csl_base::entry::PlainEntry;
 use csl_base::style::IndependentStyle;
 use csl_driver::error::FinishError;
 use csl_driver::rendered::{BibliographyItem, Rendered, RenderedBibliography, RenderedCitation};
-use csl_references::reference::{Reference, References};
 use host_memo::memo::Memo;
+use reference_values::reference::{Reference, References};
 use std::alloc::{AllocError, Global};
 use style_file::style::{CslStyle, StyleClass};
 

@@ -1,10 +1,10 @@
 //! What a style asks of the place of a cite.
 use cite_program::program::{NamesInUse, Program, Step};
-use csl_vocabulary::variable::{NumberVariable, Variable};
 use style_file::choose::{CitePosition, Test};
 use style_file::element::{Text, TextSource};
 use style_file::names::NameOptions;
 use style_file::style::CslStyle;
+use style_file::variable::{NumberVariable, Variable};
 
 /// What of the place of a cite its text depends on.
 #[derive(Clone, Copy)]

@@ -1,6 +1,6 @@
 //! Citations, as a document has them.
 use cite_walk::cite::CiteLocator;
-use csl_lookup::apart::Apart;
+use driver_lookup::apart::Apart;
 
 /// A cite.
 #[derive(Drop)]

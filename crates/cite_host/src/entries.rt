@@ -5,13 +5,13 @@ use crate::facts::first_cite;
 use crate::kept::KeptTexts;
 use crate::programs::BibliographyProgram;
 use crate::setting::Setting;
+use cite_kept::versions::Version;
 use cite_limits::error::LimitError;
 use cite_sorting::order::sorted_indexes;
 use csl_base::entry::PlainEntry;
 use csl_base::seq::Seq;
 use csl_base::text::Text;
-use csl_references::reference::{Reference, References};
-use kept_texts::versions::Version;
+use reference_values::reference::{Reference, References};
 use std::alloc::{AllocError, Global};
 use std::collections::{BTreeMap, BTreeSet};
 

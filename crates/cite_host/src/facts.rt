@@ -1,6 +1,6 @@
 //! What is known of a cite before the driver decides more.
 use cite_walk::cite::{CiteFacts, CiteLocator};
-use csl_references::reference::Reference;
+use reference_values::reference::Reference;
 
 /// A first cite of this item, whose number is printed so.
 pub(crate) fn first_cite<'c>(

@@ -1,13 +1,13 @@
 //! What was written, kept for cites and for answers to come.
 use crate::plain_cites::PlainCite;
+use cite_kept::kept::Kept;
+use cite_kept::versions::Version;
 use cite_limits::budget::Budget;
 use cite_limits::cost::Cost;
 use cite_limits::error::{LimitError, StylePlace};
 use cite_trees::trees::shown_of;
-use csl_writers::cite::Cite;
+use driver_writers::cite::Cite;
 use host_memo::table::copied;
-use kept_texts::kept::Kept;
-use kept_texts::versions::Version;
 use std::alloc::{AllocError, Global};
 use std::mem::replace;
 

@@ -12,7 +12,7 @@ use cite_limits::steps::Prices;
 use cite_names::rules::HandedDown;
 use cite_program::program::Program;
 use cite_sorting::keys::Key;
-use csl_references::reference::{Reference, References};
+use reference_values::reference::{Reference, References};
 use std::alloc::Global;
 use style_file::names::InheritedNameOptions;
 use style_file::style::CslStyle;

@@ -1,9 +1,9 @@
 //! Cites that are written alike: that is done once.
 use crate::writer::{Asked, TaskWriter};
+use cite_kept::versions::Version;
 use cite_walk::cite::Repetition;
-use csl_lookup::means::Means;
-use csl_lookup::state::CollapseVerdict;
-use kept_texts::versions::Version;
+use driver_lookup::means::Means;
+use driver_lookup::state::CollapseVerdict;
 use std::alloc::AllocError;
 use style_file::style::StyleClass;
 

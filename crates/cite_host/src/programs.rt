@@ -4,11 +4,11 @@ use cite_program::build::program_of;
 use cite_program::program::{Program, ProgramError, Step};
 use cite_sorting::keys::Key;
 use cite_sorting::order::keys_of;
-use csl_vocabulary::variable::{NumberVariable, TextVariable, Variable};
 use std::alloc::Global;
 use style_file::element::TextSource;
 use style_file::sections::{Bibliography, SortBy, SortDirection};
 use style_file::style::CslStyle;
+use style_file::variable::{NumberVariable, TextVariable, Variable};
 
 /// The programs of the layouts and the keys of a style.
 #[derive(Drop)]

@@ -56,7 +56,7 @@ fn cite_places(
     if keys.is_empty() || !is_sorted(citation) {
         return Ok(own_places(alloc, citation)?);
     }
-    if keys.iter().any(|key| key.reads_locator()) && has_locator(citation) {
+    if has_locator(citation) && keys.iter().any(|key| key.reads_locator()) {
         return places_by_keys(alloc, setting, keys, items, citation);
     }
     Ok(places_by_ranks(alloc, items, citation, ranks)?)

@@ -4,8 +4,8 @@ use crate::facts::first_cite;
 use crate::writer::{Asked, TaskWriter};
 use cite_walk::cite::{CiteFacts, Repetition};
 use csl_base::names::DisambiguatedNameForm;
-use csl_lookup::means::{Means, is_chosen, suffix_told};
-use csl_lookup::state::{CollapseVerdict, IbidState};
+use driver_lookup::means::{Means, is_chosen, suffix_told};
+use driver_lookup::state::{CollapseVerdict, IbidState};
 use host_memo::key::Standing;
 
 impl<'s, 'i, 'd> TaskWriter<'s, 'i, 'd> {

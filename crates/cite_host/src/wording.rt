@@ -3,10 +3,10 @@ use crate::cites::Cite;
 use cite_pieces::output::{Element, Output, written};
 use cite_pieces::piece::{Mark, Piece, Wrap};
 use cite_pieces::pieces::Pieces;
+use cite_texts::cases::Language;
 use cite_walk::cite::step_mark;
 use cite_walk::texts::TERM;
-use csl_references::rich_text::RichText;
-use csl_texts::cases::Language;
+use reference_values::rich_text::RichText;
 use std::alloc::{AllocError, Global};
 use style_file::formatting::TextCase;
 

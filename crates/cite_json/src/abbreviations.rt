@@ -1,10 +1,10 @@
 //! Abbreviations read from JSON, in the form that pandoc and Zotero have for them.
 use cite_walk::abbreviations::Abbreviations;
-use csl_json::fault::{Pointer, Step};
-use csl_vocabulary::variable::TextVariable;
+use reference_json::fault::{Pointer, Step};
 use serde_json::{Map, Value};
 use std::alloc::{AllocError, AllocFailed, Global};
 use std::fmt;
+use style_file::variable::TextVariable;
 use thiserror::Error;
 
 /// The key of the abbreviations that hold for all items.

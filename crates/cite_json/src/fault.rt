@@ -1,5 +1,5 @@
 //! Why citations aren't read.
-use csl_json::fault::Pointer;
+use reference_json::fault::Pointer;
 use std::alloc::{AllocError, AllocFailed};
 use std::fmt;
 use thiserror::Error;

@@ -1,6 +1,6 @@
 //! Citations that show nothing, for items that are to be listed.
 use cite_host::cites::{Citation, Cite};
-use csl_references::reference::References;
+use reference_values::reference::References;
 use std::alloc::{AllocError, Global};
 use std::collections::BTreeSet;
 

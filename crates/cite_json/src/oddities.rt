@@ -1,7 +1,7 @@
 //! What is odd in a cite.
 use crate::warning::{ValueKind, WarningKind};
-use csl_vocabulary::locator::LocatorType;
 use serde_json::{Map, Value};
+use style_file::locator::LocatorType;
 
 /// What an object of the JSON is.
 #[derive(Clone, Copy)]

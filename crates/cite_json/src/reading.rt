@@ -4,12 +4,12 @@ use crate::oddities::{Holder, note_number, oddity_of};
 use crate::warning::{CiteWarning, WarningKind};
 use cite_host::cites::{Citation, Cite};
 use cite_walk::cite::CiteLocator;
-use csl_json::fault::{Pointer, Step};
-use csl_json::unkept::{NumberTexts, Unkept};
-use csl_references::rich_text::RichText;
-use csl_vocabulary::locator::LocatorType;
+use reference_json::fault::{Pointer, Step};
+use reference_json::unkept::{NumberTexts, Unkept};
+use reference_values::rich_text::RichText;
 use serde_json::{Map, Number, Value};
 use std::alloc::{AllocError, Global};
+use style_file::locator::LocatorType;
 
 /// What was read of citations.
 #[derive(Drop)]

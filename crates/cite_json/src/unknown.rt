@@ -1,11 +1,11 @@
 //! Cites of items that aren't there.
 use cite_host::cites::{Citation, Cite, MissingCite};
 use cite_walk::cite::CiteLocator;
-use csl_references::reference::References;
+use reference_values::reference::References;
 use std::alloc::{AllocError, Global};
 use std::fmt;
 use std::mem::replace;
-use style_faults::nearest::Nearest;
+use style_elements::nearest::Nearest;
 
 /// How many ids are compared with others at most, for all guesses together.
 const MOST_COMPARED: usize = 1_000_000;

@@ -1,5 +1,5 @@
 //! What is read of citations otherwise than it stands in the JSON.
-use csl_json::fault::Pointer;
+use reference_json::fault::Pointer;
 use std::fmt;
 
 /// What the value of a key is.

@@ -1,7 +1,7 @@
 //! What the writing of a document may take.
 use crate::cost::Cost;
 use crate::error::{Excess, LimitError, StylePlace};
-use csl_references::reference::Reference;
+use reference_values::reference::Reference;
 use std::cell::Cell;
 use style_file::date::DatePart;
 use style_file::locale::{LocaleDate, StyleLocale, Term, TermWords};

@@ -2,9 +2,9 @@
 use crate::error::StylePlace;
 use std::alloc::{AllocError, Global};
 use style_file::style::CslStyle;
-use xml_reader::error::{Place, XmlError, place_at};
-use xml_reader::reader::read;
-use xml_reader::tree::Element;
+use style_xml::error::{Place, XmlError, place_at};
+use style_xml::reader::read;
+use style_xml::tree::Element;
 
 /// Where a part of a style is in the text of its file: the start of its element.
 ///

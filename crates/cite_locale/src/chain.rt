@@ -1,13 +1,13 @@
 //! Chains of locales (CSL 1.0.2, Locale Fallback).
 use crate::indexed::IndexedLocale;
 use crate::tags::{is_same_tag, usual_tag};
-use csl_texts::cases::Language;
-use csl_texts::quotes::QuoteMarks;
-use csl_vocabulary::term::{PlainTerm, TermForm};
+use cite_texts::cases::Language;
+use cite_texts::quotes::QuoteMarks;
 use std::alloc::{AllocError, Global};
 use style_file::date::DateForm;
 use style_file::fallback::{LocaleSource, lookup_order};
 use style_file::locale::{LocaleDate, LocaleFile, StyleLocale};
+use style_file::term::{PlainTerm, TermForm};
 
 /// The locales in which the words of a language are looked for, in their order.
 #[derive(Drop)]

@@ -1,6 +1,6 @@
 //! How a term is found in a locale.
-use csl_vocabulary::term::{Gender, TermForm, TermName};
 use style_file::locale::{Term, TermWords};
+use style_file::term::{Gender, TermForm, TermName};
 
 /// What is looked for.
 #[derive(Clone, Copy)]

@@ -1,8 +1,8 @@
 //! Locales whose terms are found by their names.
 use crate::find::Wanted;
-use csl_vocabulary::term::{PLAIN_TERMS, PlainTerm, TermName};
 use std::alloc::{AllocError, Global};
 use style_file::locale::{Locale, Term};
+use style_file::term::{PLAIN_TERMS, PlainTerm, TermName};
 
 /// A locale whose terms are found by their names.
 #[derive(Drop)]

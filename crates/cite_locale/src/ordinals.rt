@@ -2,8 +2,8 @@
 use crate::chain::LocaleChain;
 use crate::find::{Wanted, words_of};
 use crate::indexed::IndexedLocale;
-use csl_vocabulary::term::{Gender, OrdinalMatch, PlainTerm, TermForm, TermName};
 use style_file::locale::Term;
+use style_file::term::{Gender, OrdinalMatch, PlainTerm, TermForm, TermName};
 
 impl<'a> LocaleChain<'a> {
     /// What follows the digits of an ordinal, for a noun of this gender; empty where no locale says

@@ -2,8 +2,8 @@
 use crate::chain::LocaleChain;
 use crate::find::{Wanted, words_of};
 use crate::indexed::IndexedLocale;
-use csl_vocabulary::term::{Gender, PlainTerm, TermForm, TermName};
 use style_file::locale::Term;
+use style_file::term::{Gender, PlainTerm, TermForm, TermName};
 
 impl<'a> LocaleChain<'a> {
     /// The words of a term in this form, for many if `is_plural`; `None` where no locale has the

@@ -9,8 +9,8 @@ use Rattle.std.specs.Prelude.{nat_eq, nat_le, nat_lt}
 use Rattle.cite_names.specs.EtAl.{first_names, shown_names, truncated}
 use Rattle.cite_names.specs.NameForms.{ShowsLeading, first_in_form, form_by, only_counts, own_forms, shown_by, written_form, written_names}
 use Rattle.cite_names.specs.declared.rules.Cut.{Cut}
-use Rattle.csl_values.specs.declared.names.DisambiguatedNameForm.{DisambiguatedNameForm}
-use Rattle.csl_values.specs.declared.names.DisambiguatedNameForm.TheVariants.{Count}
+use Rattle.value_sources.specs.declared.names.DisambiguatedNameForm.{DisambiguatedNameForm}
+use Rattle.value_sources.specs.declared.names.DisambiguatedNameForm.TheVariants.{Count}
 use Rattle.style_file.specs.declared.names.NameForm.{NameForm}
 use Rattle.cite_names.specs.declared.rules.NameRules.{NameRules}
 use Rattle.cite_names.specs.declared.shown.ShownNames.TheVariants.{All, First, FirstAndLast}

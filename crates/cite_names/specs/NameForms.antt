@@ -2,8 +2,8 @@
 use Rattle.std.specs.Prelude.{◌≡◌, ℕ, ◌-◌, min, Bool, ◌&&◌, true, false, List, ◌++◌, All, drop, length, replicate, nat_eq, is_some}
 use Rattle.std.specs.List.{position_or_len, suffix_len}
 use Rattle.cite_names.specs.EtAl.{first_names, shown_names, truncated}
-use Rattle.csl_values.specs.declared.names.DisambiguatedNameForm.{DisambiguatedNameForm}
-use Rattle.csl_values.specs.declared.names.DisambiguatedNameForm.TheVariants.{Count, LongInitialized, LongFull}
+use Rattle.value_sources.specs.declared.names.DisambiguatedNameForm.{DisambiguatedNameForm}
+use Rattle.value_sources.specs.declared.names.DisambiguatedNameForm.TheVariants.{Count, LongInitialized, LongFull}
 use Rattle.style_file.specs.declared.names.NameForm.{NameForm}
 use Rattle.cite_names.specs.declared.rules.NameRules.{NameRules}
 use Rattle.cite_names.specs.declared.shown.ShownNames.{ShownNames}

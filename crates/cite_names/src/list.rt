@@ -9,11 +9,11 @@ use cite_pieces::formatting::NOTHING_ASKED;
 use cite_pieces::output::{Element, Output, element_with};
 use cite_pieces::piece::Mark;
 use csl_base::names::DisambiguatedNameForm;
-use csl_references::name::Name;
-use csl_vocabulary::variable::NameVariable;
+use reference_values::name::Name;
 use std::alloc::{AllocError, Global};
 use style_file::formatting::Formatting;
 use style_file::names::{DelimiterPrecedes, NameAnd, NameAsSortOrder, NamePart};
+use style_file::variable::NameVariable;
 
 /// The words of a locale between names.
 #[derive(Clone, Copy)]

@@ -1,5 +1,5 @@
 //! The name that stands for names that aren't given, as `and others` of BibTeX.
-use csl_references::name::Name;
+use reference_values::name::Name;
 
 /// What converters of BibTeX write in place of names that aren't given.
 const OTHERS: &str = "others";

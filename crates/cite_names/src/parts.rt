@@ -1,9 +1,9 @@
 //! The parts of a name in their order (CSL 1.0.2, "Name-part Order").
 use crate::rules::NameRules;
 use crate::scripts::is_spaced;
+use cite_texts::initials::{Initials, in_initials};
 use csl_base::names::DisambiguatedNameForm;
-use csl_references::name::{Name, PersonName};
-use csl_texts::initials::{Initials, in_initials};
+use reference_values::name::{Name, PersonName};
 use std::alloc::{AllocError, Global};
 
 /// Which element `name-part` a part is set by.

@@ -2,7 +2,7 @@
 use crate::parts::joined;
 use csl_base::entry::Person;
 use csl_base::text::Text;
-use csl_references::name::{Name, PersonName};
+use reference_values::name::{Name, PersonName};
 use std::alloc::{AllocError, Global};
 
 /// The person of a name: what is written where the name is short, and the rest.

@@ -6,7 +6,7 @@ use Rattle.cite_pieces.specs.Nesting.{depth}
 use Rattle.cite_pieces.specs.declared.marked.Opened.{Opened}
 use Rattle.cite_pieces.specs.declared.marked.Opened.TheVariants.{Marks, Quotes, Other}
 
-depth_append : (es fs : List Bool) (n m : ℕ) → depth n es ≡ Some m → depth n (es ++ fs) ≡ depth m fs
+pub depth_append : (es fs : List Bool) (n m : ℕ) → depth n es ≡ Some m → depth n (es ++ fs) ≡ depth m fs
 depth_append [] fs n m h = cc
 depth_append (true ∷ es) fs n m h = depth_append es fs (suc n) m h
 depth_append (false ∷ es) fs zero m h = cc

@@ -1,3 +1,4 @@
 pub mod Depths
 pub mod Edges
 pub mod Joined
+pub mod Levels

@@ -1,3 +1,4 @@
 pub mod Joints
+pub mod Levels
 pub mod Marked
 pub mod Nesting

@@ -4,8 +4,8 @@ ghost use Rattle.cite_pieces.specs.Nesting.{edges};
 
 use crate::piece::{Piece, Wrap};
 use crate::pieces::Pieces;
-use csl_references::rich_text::Baseline;
-use csl_texts::cases::{Language, Recasing, Span};
+use cite_texts::cases::{Language, Recasing, Span};
+use reference_values::rich_text::Baseline;
 use std::alloc::{AllocError, Global};
 use style_file::formatting::{FontVariant, TextCase, VerticalAlign};
 

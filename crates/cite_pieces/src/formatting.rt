@@ -1,5 +1,8 @@
 //! The formatting that a text has, inside what asks for some (CSL 1.0.2, Formatting).
-use csl_references::rich_text::{Baseline, RunStyle};
+ghost use Rattle.std.specs.Prelude.{◌≡◌};
+ghost use Rattle.cite_pieces.specs.Levels.{asks};
+
+use reference_values::rich_text::{Baseline, RunStyle};
 use style_file::formatting::{
     FontStyle, FontVariant, FontWeight, Formatting, TextDecoration, VerticalAlign,
 };
@@ -12,6 +15,17 @@ pub const NOTHING_ASKED: Formatting = Formatting {
     text_decoration: None,
     vertical_align: None,
 };
+
+/// Whether some formatting is asked for.
+pub(crate) fn asks_for_some(formatting: Formatting) -> bool
+    ensures { result ≡ asks formatting }
+{
+    formatting.font_style.is_some()
+        || formatting.font_variant.is_some()
+        || formatting.font_weight.is_some()
+        || formatting.text_decoration.is_some()
+        || formatting.vertical_align.is_some()
+}
 
 /// The formatting that a text has.
 #[derive(Clone, Copy, PartialEq, Eq)]

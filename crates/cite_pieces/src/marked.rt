@@ -5,7 +5,7 @@ ghost use Rattle.cite_pieces.specs.Nesting.{IsNested, depth, edges};
 
 use crate::piece::{Piece, QuoteSource, Wrap};
 use crate::pieces::Pieces;
-use csl_texts::quotes::QuoteMarks;
+use cite_texts::quotes::QuoteMarks;
 use std::alloc::{AllocError, Global};
 
 /// The stream with quotation marks as text in place of quotes. Quotes inside quotes have the inner

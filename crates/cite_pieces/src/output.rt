@@ -1,11 +1,15 @@
 //! Elements of a style as they are written: affixes, delimiters and what stands around a text.
+ghost use Rattle.std.specs.Prelude.{◌≡◌, ℕ, ◌+◌, IfOk, OnOk, Some, is_some};
+ghost use Rattle.cite_pieces.specs.Levels.{levels, levels_inside, one_if};
+ghost use Rattle.cite_pieces.specs.Nesting.{IsNested, depth, edges};
+
 use crate::cases::{in_case, without_periods};
-use crate::formatting::NOTHING_ASKED;
+use crate::formatting::{NOTHING_ASKED, asks_for_some};
 use crate::piece::{Mark, QuoteSource, Wrap};
 use crate::pieces::Pieces;
 use crate::rich::{has_quotes, is_plain, rich_pieces};
-use csl_references::rich_text::{RichText, Run, RunStyle};
-use csl_texts::cases::Language;
+use cite_texts::cases::Language;
+use reference_values::rich_text::{RichText, Run, RunStyle};
 use std::alloc::{AllocError, Global};
 use style_file::formatting::{Affixes, Display, Formatting, TextCase};
 
@@ -53,6 +57,24 @@ impl Element<'_> {
         strips_periods: false,
         mark: None,
     };
+
+    /// Its prefix, if it stands there.
+    fn prefix_at(&self, place: AffixPlace) -> &str {
+        if self.affixes == place {
+            self.prefix
+        } else {
+            ""
+        }
+    }
+
+    /// Its suffix, if it stands there.
+    fn suffix_at(&self, place: AffixPlace) -> &str {
+        if self.affixes == place {
+            self.suffix
+        } else {
+            ""
+        }
+    }
 
     /// Whether its content is changed once it is written.
     fn changes_content(&self) -> bool {
@@ -384,58 +406,95 @@ pub fn written(
     element: Element<'_>,
     content: Pieces,
     language: Language,
-) -> Result<Pieces, AllocError> {
-    let content = changed(alloc, content, element, language)?;
+) -> Result<Pieces, AllocError>
+    ensures { IsNested content.pieces.items
+        → IfOk result (λ out. IsNested out.pieces.items) }
+{
+    let changed = changed(alloc, content, element, language)?;
     let mut out = Pieces::new(alloc);
     push_start(alloc, &mut out, &element)?;
     let inside = out.len();
-    out.push_pieces(content)?;
+    out.push_pieces(changed)?;
     push_end(alloc, &mut out, &element, inside)?;
     Ok(out)
 }
 
 /// Adds what stands before the content of an element: what its display sets off, its prefix, its
 /// quotes, its mark and its formatting.
-fn push_start(alloc: Global, out: &mut Pieces, element: &Element<'_>) -> Result<(), AllocError> {
-    if let Some(display) = element.display {
-        out.open(Wrap::Display(display))?;
-    }
-    if element.affixes == AffixPlace::Outside {
-        out.push_str(alloc, element.prefix)?;
-    }
+fn push_start(alloc: Global, out: &mut Pieces, element: &Element<'_>) -> Result<(), AllocError>
+    ensures { (n : ℕ) → depth 0 (edges out.old.pieces.items) ≡ Some n
+        → OnOk result (depth 0 (edges out.new.pieces.items) ≡ Some (n + levels element.now)) }
+{
+    open_display(out, element.display)?;
+    out.push_str(alloc, element.prefix_at(AffixPlace::Outside))?;
     open_wraps(out, element)?;
-    if element.affixes == AffixPlace::Inside {
-        out.push_str(alloc, element.prefix)?;
-    }
-    Ok(())
+    out.push_str(alloc, element.prefix_at(AffixPlace::Inside))
 }
 
 /// Opens the quotes, the mark and the formatting of an element.
-fn open_wraps(out: &mut Pieces, element: &Element<'_>) -> Result<(), AllocError> {
-    if element.has_quotes {
-        out.open(Wrap::Quotes(QuoteSource::Style))?;
+fn open_wraps(out: &mut Pieces, element: &Element<'_>) -> Result<(), AllocError>
+    ensures { (n : ℕ) → depth 0 (edges out.old.pieces.items) ≡ Some n
+        → OnOk result (depth 0 (edges out.new.pieces.items)
+        ≡ Some (n + levels_inside element.now)) }
+{
+    open_if(out, element.has_quotes, Wrap::Quotes(QuoteSource::Style))?;
+    open_mark(out, element.mark)?;
+    let formatting = element.formatting;
+    open_if(out, asks_for_some(formatting), Wrap::Formatting(formatting))
+}
+
+fn open_display(out: &mut Pieces, display: Option<Display>) -> Result<(), AllocError>
+    ensures { (n : ℕ) → depth 0 (edges out.old.pieces.items) ≡ Some n
+        → OnOk result (depth 0 (edges out.new.pieces.items)
+        ≡ Some (n + one_if (is_some display))) }
+{
+    match display {
+        Some(display) => open_if(out, true, Wrap::Display(display)),
+        None => Ok(()),
     }
-    if let Some(mark) = element.mark {
-        out.open(Wrap::Mark(mark))?;
+}
+
+fn open_mark(out: &mut Pieces, mark: Option<Mark>) -> Result<(), AllocError>
+    ensures { (n : ℕ) → depth 0 (edges out.old.pieces.items) ≡ Some n
+        → OnOk result (depth 0 (edges out.new.pieces.items)
+        ≡ Some (n + one_if (is_some mark))) }
+{
+    match mark {
+        Some(mark) => open_if(out, true, Wrap::Mark(mark)),
+        None => Ok(()),
     }
-    if element.formatting != NOTHING_ASKED {
-        out.open(Wrap::Formatting(element.formatting))?;
+}
+
+/// Opens this, if the element has it.
+fn open_if(out: &mut Pieces, has_it: bool, wrap: Wrap) -> Result<(), AllocError>
+    ensures { (n : ℕ) → depth 0 (edges out.old.pieces.items) ≡ Some n
+        → OnOk result (depth 0 (edges out.new.pieces.items) ≡ Some (n + one_if has_it)) }
+{
+    if !has_it {
+        return Ok(());
     }
-    Ok(())
+    out.open(wrap)
+}
+
+/// Closes what the element opened, if it did.
+fn close_if(out: &mut Pieces, had_it: bool) -> Result<(), AllocError>
+    ensures { (n : ℕ) → depth 0 (edges out.old.pieces.items) ≡ Some (n + one_if had_it)
+        → OnOk result (depth 0 (edges out.new.pieces.items) ≡ Some n) }
+{
+    if !had_it {
+        return Ok(());
+    }
+    out.close()
 }
 
 /// Closes what `open_wraps` opens.
-fn close_wraps(out: &mut Pieces, element: &Element<'_>) -> Result<(), AllocError> {
-    if element.has_quotes {
-        out.close()?;
-    }
-    if element.mark.is_some() {
-        out.close()?;
-    }
-    if element.formatting != NOTHING_ASKED {
-        out.close()?;
-    }
-    Ok(())
+fn close_wraps(out: &mut Pieces, element: &Element<'_>) -> Result<(), AllocError>
+    ensures { (n : ℕ) → depth 0 (edges out.old.pieces.items) ≡ Some (n + levels_inside element.now)
+        → OnOk result (depth 0 (edges out.new.pieces.items) ≡ Some n) }
+{
+    close_if(out, asks_for_some(element.formatting))?;
+    close_if(out, element.mark.is_some())?;
+    close_if(out, element.has_quotes)
 }
 
 /// Adds what follows the content of an element, which begins at this place.
@@ -444,18 +503,14 @@ fn push_end(
     out: &mut Pieces,
     element: &Element<'_>,
     inside: usize,
-) -> Result<(), AllocError> {
-    if element.affixes == AffixPlace::Inside {
-        out.push_suffix(alloc, element.suffix, inside)?;
-    }
+) -> Result<(), AllocError>
+    ensures { (n : ℕ) → depth 0 (edges out.old.pieces.items) ≡ Some (n + levels element.now)
+        → OnOk result (depth 0 (edges out.new.pieces.items) ≡ Some n) }
+{
+    out.push_suffix(alloc, element.suffix_at(AffixPlace::Inside), inside)?;
     close_wraps(out, element)?;
-    if element.affixes == AffixPlace::Outside {
-        out.push_str(alloc, element.suffix)?;
-    }
-    if element.display.is_some() {
-        out.close()?;
-    }
-    Ok(())
+    out.push_str(alloc, element.suffix_at(AffixPlace::Outside))?;
+    close_if(out, element.display.is_some())
 }
 
 /// The content with the changes that an element makes in it.
@@ -464,14 +519,27 @@ fn changed(
     content: Pieces,
     element: Element<'_>,
     language: Language,
-) -> Result<Pieces, AllocError> {
-    let content = match element.text_case {
-        Some(case) => in_case(alloc, content, case, element.language.unwrap_or(language))?,
-        None => content,
-    };
-    if element.strips_periods {
-        without_periods(alloc, content)
-    } else {
-        Ok(content)
+) -> Result<Pieces, AllocError>
+    ensures { IfOk result (λ out. edges out.pieces.items ≡ edges content.pieces.items) }
+{
+    let cased = cased(alloc, content, element, language)?;
+    if !element.strips_periods {
+        return Ok(cased);
+    }
+    without_periods(alloc, cased)
+}
+
+/// The content in the text case of an element.
+fn cased(
+    alloc: Global,
+    content: Pieces,
+    element: Element<'_>,
+    language: Language,
+) -> Result<Pieces, AllocError>
+    ensures { IfOk result (λ out. edges out.pieces.items ≡ edges content.pieces.items) }
+{
+    match element.text_case {
+        Some(case) => in_case(alloc, content, case, element.language.unwrap_or(language)),
+        None => Ok(content),
     }
 }

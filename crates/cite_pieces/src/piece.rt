@@ -1,7 +1,7 @@
 //! The pieces of a stream.
-use csl_references::rich_text::RunStyle;
-use csl_vocabulary::variable::NameVariable;
+use reference_values::rich_text::RunStyle;
 use style_file::formatting::{Display, Formatting};
+use style_file::variable::NameVariable;
 
 /// A piece of a stream: a text, or where something that stands around other pieces begins or ends.
 #[derive(Clone, Drop)]

@@ -3,7 +3,7 @@ ghost use Rattle.std.specs.Prelude.{◌≡◌, false, true, [], ◌∷◌, ◌++
 ghost use Rattle.cite_pieces.specs.Nesting.{IsNested, depth, edges};
 
 use crate::piece::{Mark, Piece, Wrap};
-use csl_texts::addresses::{last_address, without_beginning};
+use cite_texts::addresses::{last_address, without_beginning};
 use std::alloc::{AllocError, Global};
 
 /// A stream of pieces. What opens in it closes in it, and nothing else does.
@@ -114,7 +114,9 @@ impl Pieces {
         alloc: Global,
         text: &str,
         start: usize,
-    ) -> Result<(), AllocError> {
+    ) -> Result<(), AllocError>
+        ensures edges { edges self.new.pieces.items ≡ edges self.old.pieces.items }
+    {
         if text.is_empty() {
             return Ok(());
         }

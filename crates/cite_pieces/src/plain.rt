@@ -1,8 +1,8 @@
 //! Streams as plain text.
 use crate::piece::{Piece, Wrap};
 use crate::pieces::Pieces;
-use csl_texts::lines::push_in_line;
-use csl_texts::quotes::QuoteMarks;
+use cite_texts::lines::push_in_line;
+use cite_texts::quotes::QuoteMarks;
 use std::alloc::{AllocError, Global};
 
 /// The texts of a stream as one line, with quotation marks. Quotes inside quotes have the inner

@@ -1,7 +1,7 @@
 //! Texts with markup, as the fields of an entry have it, and the quotes in them.
 use crate::piece::{QuoteSource, Wrap};
 use crate::pieces::Pieces;
-use csl_references::rich_text::{RichText, RunStyle};
+use reference_values::rich_text::{RichText, RunStyle};
 use std::alloc::{AllocError, Global};
 use std::mem::replace;
 

@@ -1,11 +1,11 @@
 //! Programs.
-use csl_vocabulary::variable::NameVariable;
 use std::alloc::{AllocError, AllocFailed};
 use style_file::choose::Branch;
 use style_file::date::Date;
 use style_file::element::{Group, Label, Number, Text};
 use style_file::formatting::{Affixes, Display, Formatting};
 use style_file::names::{EtAl, Name, NamesLabel};
+use style_file::variable::NameVariable;
 
 /// A step. Where it leads is a place among the steps, always behind its own.
 #[derive(Clone, Copy)]

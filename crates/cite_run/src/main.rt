@@ -4,9 +4,9 @@
 //! it too.
 #![tactic(auto)]
 
-use cite_document::error::RunError;
-use cite_document::input::read_input;
-use cite_document::running::run;
+use document_answer::error::RunError;
+use document_answer::input::read_input;
+use document_answer::running::run;
 use std::io;
 use std::process::ExitCode;
 

@@ -2,8 +2,8 @@
 use cite_call::error::CallError;
 use cite_call::json::{json_value, wrong_part};
 use cite_call::texts::TextName;
-use csl_json::fault::{Pointer, Step};
-use csl_json::unkept::{NumberTexts, Unkept};
+use reference_json::fault::{Pointer, Step};
+use reference_json::unkept::{NumberTexts, Unkept};
 use serde_json::{Number, Value};
 use std::alloc::{AllocError, Global};
 

@@ -1,9 +1,9 @@
 //! The items of a session.
 use cite_json::unknown::KnownItems;
-use csl_references::reference::{Reference, References};
-use csl_vocabulary::item_type::ItemType;
+use reference_values::reference::{Reference, References};
 use std::alloc::{AllocError, Global};
 use std::collections::BTreeSet;
+use style_file::item_type::ItemType;
 
 /// Items by their ids, which are put and removed.
 #[derive(Drop)]

@@ -1,4 +1,6 @@
 //! A document that is edited.
+ghost use Rattle.std.specs.Prelude.{◌≡◌, OnErr};
+
 use crate::citations::KeyedCitations;
 use crate::ids::read_ids;
 use crate::library::{Library, ids_of};
@@ -60,7 +62,10 @@ impl Session {
     /// # Errors
     ///
     /// Those of `open`.
-    pub fn set_style(&mut self, alloc: Global, texts: SessionTexts<'_>) -> Result<(), CallError> {
+    pub fn set_style(&mut self, alloc: Global, texts: SessionTexts<'_>) -> Result<(), CallError>
+        ensures stays { OnErr result (self.new ≡ self.old) }
+        ensures rest { self.new ≡ record self.old { style = self.new.style; kept = self.new.kept } }
+    {
         self.style = SessionStyle::read(alloc, texts)?;
         self.kept = KeptTexts::new(alloc);
         Ok(())
@@ -73,7 +78,9 @@ impl Session {
     /// # Errors
     ///
     /// `Fault` where the text is none; `OutOfMemory`.
-    pub fn put_items(&mut self, alloc: Global, items: &[u8]) -> Result<(), CallError> {
+    pub fn put_items(&mut self, alloc: Global, items: &[u8]) -> Result<(), CallError>
+        ensures stays { OnErr result (self.new ≡ record self.old { library = self.new.library }) }
+    {
         let mut reader = TextReader::new(alloc);
         let options = &self.style.styling.options;
         let items = reader.items(items, options)?.into_vec();
@@ -90,7 +97,9 @@ impl Session {
     /// # Errors
     ///
     /// `Fault` where the text is no such list; `OutOfMemory`.
-    pub fn remove_items(&mut self, alloc: Global, ids: &[u8]) -> Result<(), CallError> {
+    pub fn remove_items(&mut self, alloc: Global, ids: &[u8]) -> Result<(), CallError>
+        ensures stays { OnErr result (self.new ≡ record self.old { library = self.new.library }) }
+    {
         let ids = read_ids(alloc, ids)?;
         self.library.remove(alloc, &ids)?;
         self.forget(&ids);
@@ -103,7 +112,9 @@ impl Session {
     /// # Errors
     ///
     /// `Fault` where the text is no such list, or two citations have one key; `OutOfMemory`.
-    pub fn set_citations(&mut self, alloc: Global, citations: &[u8]) -> Result<(), CallError> {
+    pub fn set_citations(&mut self, alloc: Global, citations: &[u8]) -> Result<(), CallError>
+        ensures stays { OnErr result (self.new ≡ self.old) }
+    {
         let mut reader = TextReader::new(alloc);
         let read = reader.citations_of_any(citations)?;
         self.citations = KeyedCitations::of_read(alloc, read)?;

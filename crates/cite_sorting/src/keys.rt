@@ -19,14 +19,14 @@ use cite_walk::labels::label_of;
 use cite_walk::sorted::sorted_number;
 use cite_walk::walk::write_cite;
 use csl_base::names::DisambiguatedNameForm;
-use csl_references::name::Name;
-use csl_vocabulary::variable::{NameVariable, NumberVariable, TextVariable, Variable};
+use reference_values::name::Name;
 use std::alloc::{AllocError, Global};
 use style_file::choose::Test;
 use style_file::element::TextSource;
 use style_file::names::{InheritedNameOptions, NameForm};
 use style_file::sections::{SortBy, SortKey};
 use style_file::style::CslStyle;
+use style_file::variable::{NameVariable, NumberVariable, TextVariable, Variable};
 
 /// A key of a style, with the program of its macro.
 #[derive(Drop)]

@@ -1,13 +1,13 @@
 //! The order of items.
 ghost use Rattle.std.specs.Prelude.{IfOk, length};
-ghost use Rattle.cite_ties.specs.Ties.{IsOrderOf, indexes_in};
+ghost use Rattle.cite_sorting.specs.Ties.{IsOrderOf, indexes_in};
 
 use crate::keys::{Key, KeyScene};
+use crate::ties::{sorted_by, tied_by};
 use cite_collation::key::CollationKey;
 use cite_limits::error::LimitError;
 use cite_program::build::program_of;
 use cite_program::program::ProgramError;
-use cite_ties::ties::{sorted_by, tied_by};
 use cite_walk::cite::CiteFacts;
 use std::alloc::Global;
 use std::cmp::Reverse;

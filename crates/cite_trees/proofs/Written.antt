@@ -2,8 +2,8 @@
 use Rattle.std.proofs.Common.{◌≡◌, ℕ, List, [], ◌∷◌, ◌++◌, length, refl, sym, ap, ◌∙◌, append-nil, append_assoc, arith}
 use Rattle.std.specs.Prelude.{Result, Ok, Err, OnOk, string_bytes}
 use Rattle.std.proofs.lemmas.Grind.{flat_map-append}
-use Rattle.csl_trees.specs.Child.{Child}
-use Rattle.csl_trees.specs.Tree.{child_plain, plain}
+use Rattle.value_trees.specs.Child.{Child}
+use Rattle.value_trees.specs.Tree.{child_plain, plain}
 use Rattle.cite_pieces.specs.declared.piece.Piece.{Piece}
 use Rattle.cite_pieces.specs.declared.piece.Piece.TheVariants.{Text, Open, Close}
 use Rattle.cite_trees.specs.Plain.{before_all, before_opened, texts}

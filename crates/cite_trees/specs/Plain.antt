@@ -5,7 +5,7 @@ use Rattle.cite_pieces.specs.declared.piece.Piece.TheVariants.{Text, Open, Close
 use Rattle.cite_trees.specs.declared.trees.Builder.{Builder}
 use Rattle.cite_trees.specs.declared.trees.Opened.{Opened}
 use Rattle.cite_trees.specs.declared.trees.Opened.TheVariants.{Element}
-use Rattle.csl_trees.specs.Tree.{plain}
+use Rattle.value_trees.specs.Tree.{plain}
 
 -- the texts of a stream, in order
 abbrev pub texts : List Piece → List ℕ
@@ -24,4 +24,5 @@ before_all opened = flat_map before_opened opened
 
 -- the text of a tree that is being built
 abbrev pub written : Builder → List ℕ
-written builder = before_all builder.«open».items ++ (plain builder.children ++ string_bytes builder.text)
+written builder =
+    before_all builder.«open».items ++ (plain builder.children ++ string_bytes builder.text)

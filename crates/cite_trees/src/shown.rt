@@ -3,8 +3,8 @@ use crate::trees::tree_of;
 use cite_pieces::formatting::TextFormatting;
 use cite_pieces::marked::with_marks;
 use cite_pieces::pieces::Pieces;
+use cite_texts::quotes::QuoteMarks;
 use csl_base::elem::ElemChildren;
-use csl_texts::quotes::QuoteMarks;
 use std::alloc::{AllocError, Global};
 
 /// The tree of a stream, with quotation marks as text. Texts in it are joined where they have the

@@ -1,7 +1,7 @@
 //! Trees of streams.
 ghost use Rattle.std.specs.Prelude.{◌≡◌, ◌∷◌, ◌++◌, ◌-◌, [], IfOk, OnOk, length, string_bytes};
-ghost use Rattle.csl_trees.specs.ChildView.{child_view};
-ghost use Rattle.csl_trees.specs.Tree.{child_plain, plain};
+ghost use Rattle.value_trees.specs.ChildView.{child_view};
+ghost use Rattle.value_trees.specs.Tree.{child_plain, plain};
 ghost use Rattle.cite_trees.specs.Plain.{before_opened, texts, written};
 
 use crate::others::entry_of_other;
@@ -14,10 +14,10 @@ use csl_base::entry::Person;
 use csl_base::seq::Seq;
 use csl_base::text::Text;
 use csl_base::{formatting as tree, taxonomy};
-use csl_vocabulary::variable::NameVariable;
 use std::alloc::{AllocError, Global};
 use std::mem::replace;
 use style_file::formatting as file;
+use style_file::variable::NameVariable;
 
 /// The persons of the names of an element, by their variables.
 pub type NamedPersons = Seq<(Seq<Person>, taxonomy::NameVariable)>;

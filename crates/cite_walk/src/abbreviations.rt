@@ -1,8 +1,8 @@
 //! Abbreviations of texts, as of the titles of journals.
-use csl_references::rich_text::RichText;
-use csl_vocabulary::variable::TextVariable;
+use reference_values::rich_text::RichText;
 use std::alloc::{AllocError, Global};
 use std::collections::BTreeMap;
+use style_file::variable::TextVariable;
 
 /// The short forms of texts, without regard to case.
 #[derive(Drop)]

@@ -6,12 +6,12 @@ use cite_limits::error::{Excess, LimitError, StylePlace};
 use cite_limits::steps::{Prices, STEPS_OF_NAME, block_cost, name_cost, step_cost};
 use cite_names::rules::NameRules;
 use cite_program::program::{NamesInUse, Step};
-use csl_references::name::Name;
-use csl_references::rich_text::RichText;
-use csl_vocabulary::variable::{DateVariable, NumberVariable, TextVariable, Variable};
+use reference_values::name::Name;
+use reference_values::rich_text::RichText;
 use style_file::choose::{Branch, Test};
 use style_file::element::TextSource;
 use style_file::sections::SortBy;
+use style_file::variable::{DateVariable, NumberVariable, TextVariable, Variable};
 
 impl<'s> Walk<'s, '_> {
     /// Takes the cost of a step from what is left.

@@ -1,10 +1,10 @@
 //! Conditions (CSL 1.0.2, "Choose").
 use crate::cite::{CiteFacts, Repetition, SceneKind};
 use crate::walk::Walk;
-use csl_texts::numbers::is_numeric;
-use csl_vocabulary::variable::{DateVariable, Variable};
+use cite_texts::numbers::is_numeric;
 use std::alloc::AllocError;
 use style_file::choose::{Branch, CitePosition, Match, Test};
+use style_file::variable::{DateVariable, Variable};
 
 impl Walk<'_, '_> {
     /// Whether a branch holds.

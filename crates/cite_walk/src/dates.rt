@@ -6,10 +6,10 @@ use cite_dates::sorting::sorted_date;
 use cite_dates::write::{DateOptions, push_date};
 use cite_pieces::output::Element;
 use cite_pieces::piece::Mark;
-use csl_references::date;
-use csl_vocabulary::variable::Variable;
+use reference_values::date;
 use std::alloc::AllocError;
 use style_file::date::{Date, DateFormat, DatePartName, DateParts};
+use style_file::variable::Variable;
 
 impl<'s> Walk<'s, '_> {
     /// Writes a date. Of a cite that is cut to its suffix the suffix stays alone.

@@ -1,12 +1,12 @@
 //! Labels of items (CSL 1.0.2, the variable `citation-label`).
 use crate::values::plain_value;
 use cite_names::others::told_names;
-use csl_references::date::DateSpan;
-use csl_references::name::Name;
-use csl_references::reference::Reference;
-use csl_references::rich_text::RichText;
-use csl_vocabulary::variable::{DateVariable, NameVariable, TextVariable};
+use reference_values::date::DateSpan;
+use reference_values::name::Name;
+use reference_values::reference::Reference;
+use reference_values::rich_text::RichText;
 use std::alloc::{AllocError, Global};
+use style_file::variable::{DateVariable, NameVariable, TextVariable};
 
 /// The label of an item: its own, or one made of its names and its year. That has four
 /// letters of up to four family names, and the last two digits of the year: `Doe99`, `RoNo78`.

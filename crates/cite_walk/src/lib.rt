@@ -12,6 +12,7 @@ mod links;
 mod locators;
 mod names;
 mod numbers;
+mod persons;
 pub mod sorted;
 pub mod texts;
 pub mod values;

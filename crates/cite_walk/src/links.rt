@@ -2,13 +2,13 @@
 use crate::walk::{Walk, text_element};
 use cite_pieces::output::{Element, written};
 use cite_pieces::pieces::Pieces;
-use csl_references::rich_text::RichText;
-use csl_texts::addresses::{
+use cite_texts::addresses::{
     Identifier, identifier_address, last_address, resolver_at_end, url_address,
 };
-use csl_vocabulary::variable::TextVariable;
+use reference_values::rich_text::RichText;
 use std::alloc::{AllocError, Global};
 use style_file::element::Text;
+use style_file::variable::TextVariable;
 
 impl<'s> Walk<'s, '_> {
     /// Writes a variable that leads to an address. Where its prefix ends with the beginning of

@@ -2,10 +2,10 @@
 use crate::cite::CiteLocator;
 use crate::values::plain_value;
 use cite_locale::chain::LocaleChain;
-use cite_numbers::locators::locator_parts;
-use csl_references::rich_text::RichText;
-use csl_vocabulary::locator::LocatorType;
+use cite_locale::locators::locator_parts;
+use reference_values::rich_text::RichText;
 use std::alloc::{AllocError, Global};
+use style_file::locator::LocatorType;
 
 /// A locator as it is written.
 #[derive(Drop)]

@@ -1,23 +1,23 @@
 //! Names (CSL 1.0.2, "Names").
 use crate::cite::SceneKind;
+use crate::persons::{persons_of, shown_persons};
 use crate::walk::Walk;
-use cite_names::forms::{own_forms, raise, written_names};
+use cite_names::forms::{own_forms, raise, shown_by, written_names};
 use cite_names::list::{NameList, NameWords};
 use cite_names::others::told_names;
-use cite_names::person::person_of;
 use cite_names::rules::{HandedDown, NameRules};
+use cite_names::shown::ShownNames;
 use cite_pieces::output::{Element, element_with};
 use cite_pieces::piece::Mark;
 use cite_program::program::NamesInUse;
 use cite_trees::trees::{NamedPersons, tree_variable};
-use csl_base::entry::Person;
 use csl_base::names::DisambiguatedNameForm;
 use csl_base::seq::Seq;
-use csl_references::name::Name;
-use csl_vocabulary::term::{PlainTerm, TermForm};
-use csl_vocabulary::variable::{NameVariable, Variable};
+use reference_values::name::Name;
 use std::alloc::{AllocError, Global};
 use style_file::names::{EtAlTerm, LabelOptions, LabelPlural, LabelSide, NameForm};
+use style_file::term::{PlainTerm, TermForm};
+use style_file::variable::{NameVariable, Variable};
 
 /// The names of a variable, and the term of their role.
 #[derive(Clone, Copy)]
@@ -25,6 +25,14 @@ struct Block<'c> {
     variable: NameVariable,
     names: &'c [Name],
     term: PlainTerm,
+}
+
+impl Block<'_> {
+    /// Which of the names are shown, each in its form.
+    fn shown(&self, rules: &NameRules<'_>, forms: &[DisambiguatedNameForm]) -> ShownNames {
+        let told = told_names(self.names).len();
+        shown_by(forms, rules.use_last, told, self.names.len())
+    }
 }
 
 impl<'s, 'c> Walk<'s, 'c> {
@@ -157,7 +165,7 @@ impl<'s, 'c> Walk<'s, 'c> {
         blocks: &[Block<'c>],
     ) -> Result<(), AllocError> {
         let forms = self.forms_of_blocks(&rules, blocks)?;
-        let mark = Some(self.mark_of(blocks)?);
+        let mark = Some(self.mark_of(&rules, blocks, &forms)?);
         let is_one = blocks.len() == 1;
         let element = self.names_element(names);
         self.output.open(element)?;
@@ -340,28 +348,30 @@ impl<'s, 'c> Walk<'s, 'c> {
         Ok(forms)
     }
 
-    /// A mark for these names, whose persons are kept.
-    fn mark_of(&mut self, blocks: &[Block<'c>]) -> Result<Mark, AllocError> {
+    /// A mark for these names, whose persons are kept: of an item those that are shown, by which
+    /// repeated authors are found.
+    fn mark_of(
+        &mut self,
+        rules: &NameRules<'s>,
+        blocks: &[Block<'c>],
+        forms: &[Vec<DisambiguatedNameForm>],
+    ) -> Result<Mark, AllocError> {
         let alloc = self.alloc();
         let mut named = Vec::with_capacity(alloc, blocks.len())?;
-        for block in blocks {
-            let variable = tree_variable(self.told_variable(block.variable));
-            named.push((persons_of(alloc, block.names)?, variable))?;
+        for (block, own) in blocks.iter().zip(forms) {
+            let persons = match self.scene.kind {
+                SceneKind::Item => {
+                    shown_persons(alloc, block.names, block.shown(rules, own.as_slice()))?
+                },
+                SceneKind::Cite | SceneKind::Key(_) => persons_of(alloc, block.names)?,
+            };
+            named.push((persons, tree_variable(self.told_variable(block.variable))))?;
         }
         let place = self.names.len();
         let named: NamedPersons = Seq::new(named);
         self.names.push(named)?;
         Ok(Mark::Names(place))
     }
-}
-
-/// The persons of these names.
-fn persons_of(alloc: Global, names: &[Name]) -> Result<Seq<Person>, AllocError> {
-    let mut persons = Vec::with_capacity(alloc, names.len())?;
-    for name in names {
-        persons.push(person_of(alloc, name)?)?;
-    }
-    Ok(Seq::new(persons))
 }
 
 /// Whether these are the same persons as editors and as translators.

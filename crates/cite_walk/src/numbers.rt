@@ -3,14 +3,14 @@ use crate::cite::SceneKind;
 use crate::sorted::sorted_number;
 use crate::values::in_place_of;
 use crate::walk::Walk;
-use cite_numbers::forms::number_text;
-use cite_numbers::plurals::is_plural;
+use cite_locale::forms::number_text;
+use cite_locale::plurals::is_plural;
 use cite_pieces::output::{Element, element_with};
-use csl_texts::cases::Language;
-use csl_vocabulary::term::PlainTerm;
-use csl_vocabulary::variable::{NumberVariable, Variable};
+use cite_texts::cases::Language;
 use std::alloc::AllocError;
 use style_file::element::{Label, Number, NumberForm};
+use style_file::term::PlainTerm;
+use style_file::variable::{NumberVariable, Variable};
 
 impl<'s> Walk<'s, '_> {
     /// Writes a number. Of a cite that is cut to its suffix the locator stays.

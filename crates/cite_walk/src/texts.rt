@@ -5,19 +5,19 @@ use crate::links::Linked;
 use crate::sorted::sorted_number;
 use crate::values::{Value, in_place_of};
 use crate::walk::{Walk, text_element};
-use cite_numbers::forms::RANGE_DELIMITER;
+use cite_locale::forms::RANGE_DELIMITER;
 use cite_pieces::output::Element;
 use cite_pieces::piece::Mark;
-use csl_lookup::year::letters_of_suffix;
-use csl_references::rich_text::RichText;
-use csl_texts::numbers::is_numeric;
-use csl_texts::pages::page_ranges;
-use csl_vocabulary::locator::LocatorType;
-use csl_vocabulary::term::{PlainTerm, TermName};
-use csl_vocabulary::variable::{NumberVariable, TextVariable, Variable};
+use cite_texts::numbers::is_numeric;
+use cite_texts::pages::page_ranges;
+use driver_lookup::year::letters_of_suffix;
+use reference_values::rich_text::RichText;
 use std::alloc::AllocError;
 use style_file::element::{Text, TextSource, VariableForm};
+use style_file::locator::LocatorType;
 use style_file::style::PageRangeFormat;
+use style_file::term::{PlainTerm, TermName};
+use style_file::variable::{NumberVariable, TextVariable, Variable};
 
 /// What terms are marked as.
 pub const TERM: Mark = Mark::Other(0);

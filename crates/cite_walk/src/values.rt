@@ -1,8 +1,8 @@
 //! The values of variables.
 use crate::cite::CiteFacts;
-use csl_references::rich_text::{RichText, Run, RunStyle};
-use csl_vocabulary::variable::{NumberVariable, TextVariable, Variable};
+use reference_values::rich_text::{RichText, Run, RunStyle};
 use std::alloc::{AllocError, Global};
+use style_file::variable::{NumberVariable, TextVariable, Variable};
 
 /// A value that an item has, or that is made for a cite.
 #[derive(Drop)]

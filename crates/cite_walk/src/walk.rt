@@ -10,14 +10,14 @@ use cite_limits::paths::called_place;
 use cite_pieces::output::{Element, Output, element_with};
 use cite_pieces::piece::Mark;
 use cite_program::program::{Program, Step};
+use cite_texts::cases::Language;
 use cite_trees::trees::NamedPersons;
 use csl_base::names::DisambiguatedNameForm;
 use csl_base::seq::Seq;
-use csl_lookup::state::IdentifierUsage;
-use csl_texts::cases::Language;
-use csl_vocabulary::variable::{NameVariable, NumberVariable, TextVariable, Variable};
+use driver_lookup::state::IdentifierUsage;
 use std::alloc::{AllocError, Global};
 use style_file::element::{Group, Text};
+use style_file::variable::{NameVariable, NumberVariable, TextVariable, Variable};
 
 /// Writes a cite, an item or a key.
 ///

@@ -6,7 +6,7 @@
 
 pub mod laws;
 
-pub use csl_lists::{seq, stack, text};
-pub use csl_style_values::{calls, element, locale, ring, style};
-pub use csl_trees::{elem, equality, find, first_names, last_text, print, simplify};
-pub use csl_values::{entry, formatting, initials, names, taxonomy};
+pub use value_lists::{seq, stack, text};
+pub use value_sources::{entry, formatting, initials, names, taxonomy};
+pub use value_styles::{calls, element, locale, ring, style};
+pub use value_trees::{elem, equality, find, first_names, last_text, print, simplify};

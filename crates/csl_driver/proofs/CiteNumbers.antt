@@ -6,10 +6,10 @@ use Rattle.std.specs.List.{AllZip, enumerate_from}
 use Rattle.std.proofs.lemmas.Bool.{or_left, or_right}
 use Rattle.std.proofs.lemmas.List.Elements.{All-append, All-cons, All-head, All-nil, All-tail}
 use Rattle.csl_driver.specs.AnswerLaws.{IsReadBack, uncollapsed}
-use Rattle.csl_entries.specs.Entries.{is_in}
-use Rattle.csl_entries.proofs.Distinct.{is_in-append}
-use Rattle.csl_passes.specs.Renders.{CiteRender, ItemRender}
-use Rattle.csl_positions.specs.FinalProperties.{cited_finally, final_position, items_before, items_finally, placed_finally, with_final, with_final_items, with_final_properties}
+use Rattle.driver_entries.specs.Entries.{is_in}
+use Rattle.driver_entries.proofs.Distinct.{is_in-append}
+use Rattle.driver_passes.specs.Renders.{CiteRender, ItemRender}
+use Rattle.driver_positions.specs.FinalProperties.{cited_finally, final_position, items_before, items_finally, placed_finally, with_final, with_final_items, with_final_properties}
 
 module _ {E P : Type 0} (eq : E → E → Bool) (laws : IsEquivalence eq) (Q : E → Type 0) where
   -- what is known of the entries that are cited is known of that of each cite

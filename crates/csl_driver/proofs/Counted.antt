@@ -6,9 +6,9 @@ use Rattle.std.proofs.Math.ListN.{length-map}
 use Rattle.std.proofs.lemmas.List.FromFn.{length-map-range_with_len}
 use Rattle.std.proofs.lemmas.List.Sums.{prefix_len-le-length}
 use Rattle.csl_driver.specs.Cited.{listed_number, numbers_at}
-use Rattle.csl_entries.specs.Entries.{number, place}
-use Rattle.csl_entries.specs.Listed.{IsListingOf, Listed}
-use Rattle.csl_positions.specs.FirstProperties.{numbered_by}
+use Rattle.driver_entries.specs.Entries.{number, place}
+use Rattle.driver_entries.specs.Listed.{IsListingOf, Listed}
+use Rattle.driver_positions.specs.FirstProperties.{numbered_by}
 
 funext : {A B : Type 0} {f g : A → B} → ((x : A) → f x ≡ g x) → f ≡ g
 funext h = λ i x. h x i

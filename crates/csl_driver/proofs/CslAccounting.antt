@@ -6,8 +6,8 @@ use Rattle.std.proofs.lemmas.List.Elements.{All-get_or}
 use Rattle.std.proofs.lemmas.List.Folds.{find_at}
 use Rattle.std.proofs.lemmas.Simd.{map-map}
 use Rattle.csl_driver.specs.CslAccount.{every_second}
-use Rattle.csl_entries.specs.Entries.{place}
-use Rattle.csl_positions.specs.FirstProperties.{numbered_by}
+use Rattle.driver_entries.specs.Entries.{place}
+use Rattle.driver_positions.specs.FirstProperties.{numbered_by}
 
 -- whether the next member is taken
 abbrev pub next_taken : {X : Type 0} → Bool → List X → Bool

@@ -1,22 +1,22 @@
 -- The cites that the code puts in order and arranges, whose locators are lent, are those of the answer.
 use Rattle.std.proofs.Common.{◌≡◌, ℕ, Bool, List, [], Option, map, ap, sym, subst, ◌∙◌}
 use Rattle.std.specs.Cmp.{IsEquivalence}
-use Rattle.csl_arranging.specs.Arranged.{arranged_cites}
-use Rattle.csl_arranging.specs.Requests.{Request as Arranged}
-use Rattle.csl_arranging.specs.declared.arranged.ArrangedCite.{ArrangedCite}
-use Rattle.csl_arranging.specs.declared.request.FinalCite.{FinalCite}
-use Rattle.csl_cited_mentions.specs.declared.kept.KeptOfMention.{KeptOfMention}
-use Rattle.csl_entries.specs.Table.{Table, table_of}
-use Rattle.csl_lookup.specs.Properties.{LocatorValue}
-use Rattle.csl_mentions.specs.declared.state.MentionState.{MentionState}
-use Rattle.csl_notes.specs.declared.notes.CiteNotes.{CiteNotes}
-use Rattle.csl_passes.specs.Renders.{CiteRender}
-use Rattle.csl_tables.specs.declared.tables.Told.{Told}
-use Rattle.csl_told_cites.specs.Arranging.{arranged_finally}
-use Rattle.csl_told_cites.specs.Cites.{ToldValue, told_cites}
-use Rattle.csl_told_cites.specs.Mentions.{told_mentions}
-use Rattle.csl_told_cites.specs.declared.mentions.ToldMention.{ToldMention}
-use Rattle.csl_writers.specs.Writing.{Writing}
+use Rattle.mentions_arranging.specs.Arranged.{arranged_cites}
+use Rattle.mentions_arranging.specs.Requests.{Request as Arranged}
+use Rattle.mentions_arranging.specs.declared.arranged.ArrangedCite.{ArrangedCite}
+use Rattle.mentions_arranging.specs.declared.request.FinalCite.{FinalCite}
+use Rattle.mentions_cited.specs.declared.kept.KeptOfMention.{KeptOfMention}
+use Rattle.driver_entries.specs.Table.{Table, table_of}
+use Rattle.driver_lookup.specs.Properties.{LocatorValue}
+use Rattle.mentions_groups.specs.declared.state.MentionState.{MentionState}
+use Rattle.mentions_notes.specs.declared.notes.CiteNotes.{CiteNotes}
+use Rattle.driver_passes.specs.Renders.{CiteRender}
+use Rattle.mentions_tables.specs.declared.tables.Told.{Told}
+use Rattle.mentions_cites.specs.Arranging.{arranged_finally}
+use Rattle.mentions_cites.specs.Cites.{ToldValue, told_cites}
+use Rattle.mentions_cites.specs.Mentions.{told_mentions}
+use Rattle.mentions_cites.specs.declared.mentions.ToldMention.{ToldMention}
+use Rattle.driver_writers.specs.Writing.{Writing}
 use Rattle.csl_driver.specs.Answer.{Job}
 use Rattle.csl_driver.specs.AreCitesOf.{AreCitesOf}
 use Rattle.csl_driver.specs.CslAnswer.{cite_notes, cites_in_order, known, ordered, same_locator}

@@ -6,29 +6,29 @@ use Rattle.std.proofs.Math.ListN.{length-map}
 use Rattle.std.proofs.lemmas.Bool.Decides.{nat_tests}
 use Rattle.std.proofs.lemmas.List.{map-append}
 use Rattle.std.proofs.lemmas.List.Elements.{All-head, All-tail}
-use Rattle.csl_arranging.specs.Order.{alone, final_order, final_request, grouped_cite, handed_order, is_grouped}
-use Rattle.csl_arranging.specs.Requests.{Request as Arranged}
-use Rattle.csl_arranging.specs.declared.request.CiteStyle.{CiteStyle}
-use Rattle.csl_arranging.specs.declared.request.FinalCite.{FinalCite}
-use Rattle.csl_arranging.specs.declared.request.RequestedCite.{RequestedCite as PlainCite}
-use Rattle.csl_arranging.specs.declared.request.Shown.{Shown}
-use Rattle.csl_blocks.specs.Blocks.{block, block_order, placed_cites}
-use Rattle.csl_blocks.specs.declared.blocks.GroupedCite.{GroupedCite}
-use Rattle.csl_blocks.specs.declared.blocks.PlacedCite.{PlacedCite}
-use Rattle.csl_blocks.proofs.Placing.{blocks-within}
+use Rattle.mentions_arranging.specs.Order.{alone, final_order, final_request, grouped_cite, handed_order, is_grouped}
+use Rattle.mentions_arranging.specs.Requests.{Request as Arranged}
+use Rattle.mentions_arranging.specs.declared.request.CiteStyle.{CiteStyle}
+use Rattle.mentions_arranging.specs.declared.request.FinalCite.{FinalCite}
+use Rattle.mentions_arranging.specs.declared.request.RequestedCite.{RequestedCite as PlainCite}
+use Rattle.mentions_arranging.specs.declared.request.Shown.{Shown}
+use Rattle.mentions_blocks.specs.Blocks.{block, block_order, placed_cites}
+use Rattle.mentions_blocks.specs.declared.blocks.GroupedCite.{GroupedCite}
+use Rattle.mentions_blocks.specs.declared.blocks.PlacedCite.{PlacedCite}
+use Rattle.mentions_blocks.proofs.Placing.{blocks-within}
 use Rattle.csl_driver.specs.AnswerLaws.{places_of}
 use Rattle.csl_driver.specs.CslCitations.{StandInBlocks}
 use Rattle.csl_driver.proofs.CslOnce.{AreWhole, IsWhole, first-of-both, handed-within, handed_at, place_of, places-ordered}
-use Rattle.csl_grouping.specs.Laws.{StandsTogether}
-use Rattle.csl_lookup.specs.Properties.{LocatorValue}
-use Rattle.csl_notes.specs.declared.notes.CiteNotes.{CiteNotes}
-use Rattle.csl_passes.specs.Renders.{CiteRender}
-use Rattle.csl_passes.specs.Request.{RequestedCite, Request}
-use Rattle.csl_requested_mentions.specs.Handed.{cite_counts}
-use Rattle.csl_tables.specs.Steps.{all_changed}
-use Rattle.csl_told_cites.specs.Cites.{ToldValue, told_at, told_cite, told_cites, told_request}
-use Rattle.csl_told_cites.specs.Repeats.{cites_with_shown, with_shown}
-use Rattle.csl_told_laws.proofs.Placing.{ends-there}
+use Rattle.rounds_grouping.specs.Laws.{StandsTogether}
+use Rattle.driver_lookup.specs.Properties.{LocatorValue}
+use Rattle.mentions_notes.specs.declared.notes.CiteNotes.{CiteNotes}
+use Rattle.driver_passes.specs.Renders.{CiteRender}
+use Rattle.driver_passes.specs.Request.{RequestedCite, Request}
+use Rattle.mentions_cited.specs.Handed.{cite_counts}
+use Rattle.mentions_tables.specs.Steps.{all_changed}
+use Rattle.mentions_cites.specs.Cites.{ToldValue, told_at, told_cite, told_cites, told_request}
+use Rattle.mentions_cites.specs.Repeats.{cites_with_shown, with_shown}
+use Rattle.mentions_table_laws.proofs.Placing.{ends-there}
 
 -- ---- a part of a list of parts
 

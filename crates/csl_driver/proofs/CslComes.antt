@@ -6,14 +6,14 @@ use Rattle.std.specs.List.{AllZip, range_with_len}
 use Rattle.std.specs.List.Sorted.{IsPermutation}
 use Rattle.std.proofs.Math.ListN.{length-map}
 use Rattle.std.proofs.lemmas.List.Elements.{All-weaker}
-use Rattle.csl_arranging.specs.Arranged.{arranged_cites}
-use Rattle.csl_arranging.specs.Order.{final_request}
-use Rattle.csl_arranging.specs.Repeating.{final_positions, repeating_request}
-use Rattle.csl_arranging.specs.Requests.{Request as Arranged}
-use Rattle.csl_arranging.specs.declared.request.FinalCite.{FinalCite}
-use Rattle.csl_assembly.specs.ByMeans.{bibliography_by_means}
-use Rattle.csl_assembly.specs.declared.rendered.Rendered.{Rendered}
-use Rattle.csl_cited_mentions.specs.ToldMeans.{means_of}
+use Rattle.mentions_arranging.specs.Arranged.{arranged_cites}
+use Rattle.mentions_arranging.specs.Order.{final_request}
+use Rattle.mentions_arranging.specs.Repeating.{final_positions, repeating_request}
+use Rattle.mentions_arranging.specs.Requests.{Request as Arranged}
+use Rattle.mentions_arranging.specs.declared.request.FinalCite.{FinalCite}
+use Rattle.driver_assembly.specs.ByMeans.{bibliography_by_means}
+use Rattle.driver_assembly.specs.declared.rendered.Rendered.{Rendered}
+use Rattle.mentions_cited.specs.ToldMeans.{means_of}
 use Rattle.csl_driver.specs.Answer.{Job, numbered_finally, used_order}
 use Rattle.csl_driver.specs.AnswerLaws.{AreInOrder, HasOwnCites, HaveNumbersOnce}
 use Rattle.csl_driver.specs.CslAccount.{entries_told, every_second}
@@ -35,23 +35,23 @@ use Rattle.csl_driver.proofs.CslReadBack.{rows-back}
 use Rattle.csl_driver.proofs.CslShown.{citations-seen}
 use Rattle.csl_driver.proofs.CslTold.{AreStanding, HasMeans, HasNumber, all-arranged, equal-places, keyed-stand, means-arranged, numbers-arranged, shown-stand, turn-of}
 use Rattle.csl_driver.proofs.KeptLaws.{by-final-order, numbered-once}
-use Rattle.csl_entries.specs.Entries.{bibliography_order, distinct, is_in, number, place}
-use Rattle.csl_entries.proofs.Distinct.{is_in-distinct}
-use Rattle.csl_entries.proofs.Once.{holds_each_once, without_gaps}
-use Rattle.csl_lookup.specs.Properties.{LocatorValue}
-use Rattle.csl_mentions.specs.declared.state.MentionState.{MentionState}
-use Rattle.csl_mentions.specs.declared.written.Written.{Written}
-use Rattle.csl_passes.specs.Renders.{CiteRender}
-use Rattle.csl_passes.specs.Request.{Request, cited, wanted_source}
-use Rattle.csl_positions.specs.FinalProperties.{cited_finally, items_finally}
-use Rattle.csl_requested_mentions.specs.Handed.{cite_counts}
-use Rattle.csl_requested_mentions.specs.Handed.{is_cited_again}
-use Rattle.csl_requested_mentions.specs.Homes.{HomeValue, homes_of}
-use Rattle.csl_tables.specs.Asked.{untold}
-use Rattle.csl_told_cites.specs.Mentions.{mention_index, suffix_number}
-use Rattle.csl_told_cites.proofs.Standing.{told-cited as told-cites-cited, told-of}
-use Rattle.csl_writers.specs.Tasks.{CiteTaskValue}
-use Rattle.csl_writers.specs.Writing.{Writing}
+use Rattle.driver_entries.specs.Entries.{bibliography_order, distinct, is_in, number, place}
+use Rattle.driver_entries.proofs.Distinct.{is_in-distinct}
+use Rattle.driver_entries.proofs.Once.{holds_each_once, without_gaps}
+use Rattle.driver_lookup.specs.Properties.{LocatorValue}
+use Rattle.mentions_groups.specs.declared.state.MentionState.{MentionState}
+use Rattle.mentions_groups.specs.declared.written.Written.{Written}
+use Rattle.driver_passes.specs.Renders.{CiteRender}
+use Rattle.driver_passes.specs.Request.{Request, cited, wanted_source}
+use Rattle.driver_positions.specs.FinalProperties.{cited_finally, items_finally}
+use Rattle.mentions_cited.specs.Handed.{cite_counts}
+use Rattle.mentions_cited.specs.Handed.{is_cited_again}
+use Rattle.mentions_cited.specs.Homes.{HomeValue, homes_of}
+use Rattle.mentions_tables.specs.Asked.{untold}
+use Rattle.mentions_cites.specs.Mentions.{mention_index, suffix_number}
+use Rattle.mentions_cites.proofs.Standing.{told-cited as told-cites-cited, told-of}
+use Rattle.driver_writers.specs.Tasks.{CiteTaskValue}
+use Rattle.driver_writers.specs.Writing.{Writing}
 
 as-long : {A B : Type 0} (R : A → B → Type 0) (xs : List A) (ys : List B) → AllZip R xs ys → length ys ≡ length xs
 as-long R [] [] h = refl

@@ -13,11 +13,11 @@ use Rattle.csl_driver.specs.WriterTasks.{last_tasks}
 use Rattle.csl_driver.proofs.ListedCount.{means-counted}
 use Rattle.csl_driver.proofs.Sizes.{size}
 use Rattle.csl_driver.proofs.TaskCounts.{last-count, wanted-count}
-use Rattle.csl_entries.specs.Table.{Table, table_of}
-use Rattle.csl_passes.specs.Request.{cites_of}
-use Rattle.csl_tables.specs.Tables.{all_tasks}
-use Rattle.csl_writers.specs.Tasks.{TaskValue}
-use Rattle.csl_writers.specs.Writing.{Writing}
+use Rattle.driver_entries.specs.Table.{Table, table_of}
+use Rattle.driver_passes.specs.Request.{cites_of}
+use Rattle.mentions_tables.specs.Tables.{all_tasks}
+use Rattle.driver_writers.specs.Tasks.{TaskValue}
+use Rattle.driver_writers.specs.Writing.{Writing}
 
 module _ {E P : Type 0} (eq : E → E → Bool) (laws : IsEquivalence eq) (payload_eq : P → P → Bool) (writing : Writing E P) (job : Job E P) (table : Table E) (is : table ≡ table_of eq job.requests)
     (belong : AreCitesOf eq table job.requests (cites_arranged eq job writing payload_eq)) (sized : sum_by size (cites_arranged eq job writing payload_eq) ≡ length (cites_of job.requests)) where

@@ -5,26 +5,26 @@ use Rattle.std.specs.List.Sorted.{IsPermutation}
 use Rattle.std.proofs.lemmas.List.{length-append, length-map}
 use Rattle.std.proofs.lemmas.List.Concat.{length-flat_map}
 use Rattle.std.proofs.lemmas.List.Sums.{sum_by-cons}
-use Rattle.csl_arranging.specs.Arranged.{arranged_cites}
-use Rattle.csl_arranging.specs.Order.{final_request}
-use Rattle.csl_arranging.specs.Requests.{Request as Arranged}
-use Rattle.csl_arranging.specs.declared.arranged.ArrangedCite.{ArrangedCite}
-use Rattle.csl_arranging.specs.declared.request.FinalCite.{FinalCite}
-use Rattle.csl_arranging.specs.declared.request.RequestedCite.{RequestedCite as PlainCite}
-use Rattle.csl_arranging.specs.declared.request.Shown.{Shown}
-use Rattle.csl_lookup.specs.Properties.{LocatorValue}
-use Rattle.csl_notes.specs.Notes.{all_notes}
-use Rattle.csl_passes.specs.Renders.{CiteRender}
-use Rattle.csl_passes.specs.Request.{Request, cites_of}
-use Rattle.csl_requested_mentions.specs.Handed.{cite_counts, handed_cite, handed_cites}
-use Rattle.csl_requested_mentions.proofs.Cutting.{parts-counted}
-use Rattle.csl_requested_mentions.proofs.Handing.{notes-count}
-use Rattle.csl_tables.specs.Steps.{all_changed}
-use Rattle.csl_told_cites.specs.Arranging.{arranged_by, arranged_request}
-use Rattle.csl_told_cites.specs.Repeats.{cites_with_shown, with_first_key, with_key}
-use Rattle.csl_told_cites.specs.declared.mentions.ToldMention.{ToldMention}
-use Rattle.csl_told_cites.proofs.Whole.{finals-once, plain-lengths, told-lengths}
-use Rattle.csl_writers.specs.Writing.{Writing}
+use Rattle.mentions_arranging.specs.Arranged.{arranged_cites}
+use Rattle.mentions_arranging.specs.Order.{final_request}
+use Rattle.mentions_arranging.specs.Requests.{Request as Arranged}
+use Rattle.mentions_arranging.specs.declared.arranged.ArrangedCite.{ArrangedCite}
+use Rattle.mentions_arranging.specs.declared.request.FinalCite.{FinalCite}
+use Rattle.mentions_arranging.specs.declared.request.RequestedCite.{RequestedCite as PlainCite}
+use Rattle.mentions_arranging.specs.declared.request.Shown.{Shown}
+use Rattle.driver_lookup.specs.Properties.{LocatorValue}
+use Rattle.mentions_notes.specs.Notes.{all_notes}
+use Rattle.driver_passes.specs.Renders.{CiteRender}
+use Rattle.driver_passes.specs.Request.{Request, cites_of}
+use Rattle.mentions_cited.specs.Handed.{cite_counts, handed_cite, handed_cites}
+use Rattle.mentions_cited.proofs.Cutting.{parts-counted}
+use Rattle.mentions_cited.proofs.Handing.{notes-count}
+use Rattle.mentions_tables.specs.Steps.{all_changed}
+use Rattle.mentions_cites.specs.Arranging.{arranged_by, arranged_request}
+use Rattle.mentions_cites.specs.Repeats.{cites_with_shown, with_first_key, with_key}
+use Rattle.mentions_cites.specs.declared.mentions.ToldMention.{ToldMention}
+use Rattle.mentions_cites.proofs.Whole.{finals-once, plain-lengths, told-lengths}
+use Rattle.driver_writers.specs.Writing.{Writing}
 use Rattle.csl_driver.specs.Answer.{Job}
 use Rattle.csl_driver.specs.CslAnswer.{cite_notes, cites_arranged, cites_in_order, entry_suffixes, known, listed, numbers_in_the_end, ordered, plain_by, repeated_cites, repeated_firsts, same_locator, shown_mentions, shown_repeated}
 use Rattle.csl_driver.proofs.CslBlocks.{places-stay}

@@ -7,17 +7,17 @@ use Rattle.csl_driver.specs.Answer.{Job, numbered_finally, used_order}
 use Rattle.csl_driver.specs.CslAccount.{entries_told}
 use Rattle.csl_driver.specs.CslAnswer.{listed}
 use Rattle.csl_driver.proofs.ListedKeys.{AreEqual, equal-apart, equal-in, equal-length}
-use Rattle.csl_entries.specs.Entries.{bibliography_order, distinct, is_in, number, place}
-use Rattle.csl_entries.specs.Laws.{HoldsEachOnce, NoTwoEqual}
-use Rattle.csl_entries.specs.Listed.{Listed, listed_places}
-use Rattle.csl_entries.proofs.Distinct.{is_in-distinct}
-use Rattle.csl_entries.proofs.ListedPlaces.{all-cited, listing-of}
-use Rattle.csl_entries.proofs.Once.{NoTwoEqual-distinct, holds_each_once, without_gaps}
-use Rattle.csl_entries.proofs.Placing.{all_in, left, right}
-use Rattle.csl_passes.specs.Renders.{CiteRender}
-use Rattle.csl_passes.specs.Request.{Request, cited}
-use Rattle.csl_requested_mentions.specs.Homes.{homes_of}
-use Rattle.csl_requested_mentions.proofs.Finding.{homes-count}
+use Rattle.driver_entries.specs.Entries.{bibliography_order, distinct, is_in, number, place}
+use Rattle.driver_entries.specs.Laws.{HoldsEachOnce, NoTwoEqual}
+use Rattle.driver_entries.specs.Listed.{Listed, listed_places}
+use Rattle.driver_entries.proofs.Distinct.{is_in-distinct}
+use Rattle.driver_entries.proofs.ListedPlaces.{all-cited, listing-of}
+use Rattle.driver_entries.proofs.Once.{NoTwoEqual-distinct, holds_each_once, without_gaps}
+use Rattle.driver_entries.proofs.Placing.{all_in, left, right}
+use Rattle.driver_passes.specs.Renders.{CiteRender}
+use Rattle.driver_passes.specs.Request.{Request, cited}
+use Rattle.mentions_cited.specs.Homes.{homes_of}
+use Rattle.mentions_cited.proofs.Finding.{homes-count}
 
 module _ {E : Type 0} (eq : E → E → Bool) (laws : IsEquivalence eq) where
   find-in : (e : E) (xs : List E) → is_some (find (eq e) xs) ≡ is_in eq e xs

@@ -7,24 +7,24 @@ use Rattle.std.proofs.lemmas.List.FromFn.{length-range_with_len}
 use Rattle.std.proofs.lemmas.List.Sorted.{length_permutation}
 use Rattle.std.proofs.lemmas.Slice.Zip.{length-zip}
 use Rattle.std.specs.Option.{option_and_then}
-use Rattle.csl_arranging.specs.Order.{final_request}
-use Rattle.csl_arranging.specs.Repeating.{all_repeated, final_positions, first_repeated, handed_positions, is_looked_at, repeated_where}
-use Rattle.csl_arranging.specs.Requests.{Request as Arranged}
-use Rattle.csl_arranging.specs.declared.repeating.Repeated.{Repeated}
-use Rattle.csl_arranging.specs.declared.request.FinalCite.{FinalCite}
+use Rattle.mentions_arranging.specs.Order.{final_request}
+use Rattle.mentions_arranging.specs.Repeating.{all_repeated, final_positions, first_repeated, handed_positions, is_looked_at, repeated_where}
+use Rattle.mentions_arranging.specs.Requests.{Request as Arranged}
+use Rattle.mentions_arranging.specs.declared.repeating.Repeated.{Repeated}
+use Rattle.mentions_arranging.specs.declared.request.FinalCite.{FinalCite}
 use Rattle.csl_driver.specs.Answer.{Job}
 use Rattle.csl_driver.specs.CslAnswer.{cite_notes, entry_suffixes, keyed, listed, mentions, plain, repeated_cites, repeated_firsts, same_locator, shown_mentions, shown_repeated, states, tasks_repeated}
 use Rattle.csl_driver.specs.CslTasks.{repeat_cite_tasks}
 use Rattle.csl_driver.proofs.CslCounts.{once-in-order}
 use Rattle.csl_driver.proofs.CslOnce.{AreWhole, handed_at}
-use Rattle.csl_lookup.specs.Properties.{LocatorValue}
-use Rattle.csl_notes.specs.declared.notes.CiteNotes.{CiteNotes}
-use Rattle.csl_notes.specs.declared.repeats.Position.{Position}
-use Rattle.csl_passes.specs.Request.{Request, cites_of}
-use Rattle.csl_told_cites.specs.Repeats.{repeat_task}
-use Rattle.csl_told_cites.specs.Requests.{plain_request}
-use Rattle.csl_writers.specs.Tasks.{CiteTaskValue, cite_task}
-use Rattle.csl_writers.specs.Writing.{Writing}
+use Rattle.driver_lookup.specs.Properties.{LocatorValue}
+use Rattle.mentions_notes.specs.declared.notes.CiteNotes.{CiteNotes}
+use Rattle.mentions_notes.specs.declared.repeats.Position.{Position}
+use Rattle.driver_passes.specs.Request.{Request, cites_of}
+use Rattle.mentions_cites.specs.Repeats.{repeat_task}
+use Rattle.mentions_cites.specs.Requests.{plain_request}
+use Rattle.driver_writers.specs.Tasks.{CiteTaskValue, cite_task}
+use Rattle.driver_writers.specs.Writing.{Writing}
 
 -- what is picked is no more than what there is
 few : {A B : Type 0} (f : A → Option B) (xs : List A) → length (filter_map f xs) ≤ length xs

@@ -6,14 +6,14 @@ use Rattle.std.specs.List.{cons_option, enumerate_from, filter_map, zip}
 use Rattle.std.proofs.lemmas.Bool.{or_right}
 use Rattle.std.proofs.lemmas.List.{append-nil}
 use Rattle.std.proofs.lemmas.List.Elements.{filter_map-append}
-use Rattle.csl_assembly.specs.ByMeans.{cite_with_means, cites_with_means}
-use Rattle.csl_assembly.specs.declared.by_means.ItemMeans.{ItemMeans}
-use Rattle.csl_assembly.proofs.Paired.{twice}
-use Rattle.csl_entries.specs.Entries.{is_in, place}
-use Rattle.csl_passes.specs.Places.{cite_at}
-use Rattle.csl_passes.specs.Renders.{CiteRender, ItemRender, Place}
-use Rattle.csl_passes.specs.Request.{Request}
-use Rattle.csl_positions.specs.FinalProperties.{AreFirstItems, first_item}
+use Rattle.driver_assembly.specs.ByMeans.{cite_with_means, cites_with_means}
+use Rattle.driver_assembly.specs.declared.by_means.ItemMeans.{ItemMeans}
+use Rattle.driver_assembly.proofs.Paired.{twice}
+use Rattle.driver_entries.specs.Entries.{is_in, place}
+use Rattle.driver_passes.specs.Places.{cite_at}
+use Rattle.driver_passes.specs.Renders.{CiteRender, ItemRender, Place}
+use Rattle.driver_passes.specs.Request.{Request}
+use Rattle.driver_positions.specs.FinalProperties.{AreFirstItems, first_item}
 use Rattle.csl_driver.specs.CslAnswer.{listed_cites}
 use Rattle.csl_driver.proofs.ByIndex.{numbered-more}
 use Rattle.csl_driver.proofs.FirstCites.{cite-item, first_of, none-first, own-first, some-first}

@@ -5,7 +5,7 @@ use Rattle.std.specs.Cmp.{IsEquivalence}
 use Rattle.std.specs.List.{AllZip}
 use Rattle.std.proofs.Math.ListN.{length-map}
 use Rattle.std.proofs.lemmas.List.FromFn.{length-range_with_len}
-use Rattle.csl_assembly.specs.declared.rendered.Rendered.{Rendered}
+use Rattle.driver_assembly.specs.declared.rendered.Rendered.{Rendered}
 use Rattle.csl_driver.specs.Account.{where_listed}
 use Rattle.csl_driver.specs.Answer.{Job}
 use Rattle.csl_driver.specs.CslAnswer.{entry_suffixes, listed, mentions, read, states}
@@ -17,24 +17,24 @@ use Rattle.csl_driver.specs.declared.csl_account.CslAccount.{CslAccount}
 use Rattle.csl_driver.proofs.CslEntries.{equal-told, homes-told, told-cited, told-count, told-once}
 use Rattle.csl_driver.proofs.CslFew.{repeats-few}
 use Rattle.csl_driver.proofs.CslPairs.{by_turns, firsts-count, in-pairs, laters-count, turns}
-use Rattle.csl_entries.specs.Entries.{is_in}
-use Rattle.csl_entries.specs.Laws.{NoTwoEqual}
-use Rattle.csl_mentions.specs.Suffixes.{laters}
-use Rattle.csl_mentions.specs.declared.state.MentionState.{MentionState}
-use Rattle.csl_mentions.specs.declared.written.Written.{Written}
-use Rattle.csl_passes.specs.Request.{cites_of}
-use Rattle.csl_requested_mentions.specs.Handed.{is_cited_again}
-use Rattle.csl_requested_mentions.specs.Homes.{HomeValue, homes_of}
-use Rattle.csl_tables.specs.Tables.{all_tasks, mentions_in}
-use Rattle.csl_tables.specs.declared.subject.Subject.{Subject}
-use Rattle.csl_told_laws.specs.Pairs.{AreMentionsInPairs}
-use Rattle.csl_told_laws.specs.TellingLaws.{KeepsTellingLaws, has_names, rounds_of}
-use Rattle.csl_told_laws.proofs.Bounded.{three-at-most}
-use Rattle.csl_told_laws.proofs.Kept.{keeps-laws}
-use Rattle.csl_told_laws.proofs.Paired.{entries-in-order, twice-as-many}
-use Rattle.csl_told_laws.proofs.Settled.{settled, third-table}
-use Rattle.csl_writers.specs.Tasks.{CiteTaskValue}
-use Rattle.csl_writers.specs.Writing.{Writing}
+use Rattle.driver_entries.specs.Entries.{is_in}
+use Rattle.driver_entries.specs.Laws.{NoTwoEqual}
+use Rattle.mentions_groups.specs.Suffixes.{laters}
+use Rattle.mentions_groups.specs.declared.state.MentionState.{MentionState}
+use Rattle.mentions_groups.specs.declared.written.Written.{Written}
+use Rattle.driver_passes.specs.Request.{cites_of}
+use Rattle.mentions_cited.specs.Handed.{is_cited_again}
+use Rattle.mentions_cited.specs.Homes.{HomeValue, homes_of}
+use Rattle.mentions_tables.specs.Tables.{all_tasks, mentions_in}
+use Rattle.mentions_tables.specs.declared.subject.Subject.{Subject}
+use Rattle.mentions_table_laws.specs.Pairs.{AreMentionsInPairs}
+use Rattle.mentions_table_laws.specs.TellingLaws.{KeepsTellingLaws, has_names, rounds_of}
+use Rattle.mentions_table_laws.proofs.Bounded.{three-at-most}
+use Rattle.mentions_table_laws.proofs.Kept.{keeps-laws}
+use Rattle.mentions_table_laws.proofs.Paired.{entries-in-order, twice-as-many}
+use Rattle.mentions_table_laws.proofs.Settled.{settled, third-table}
+use Rattle.driver_writers.specs.Tasks.{CiteTaskValue}
+use Rattle.driver_writers.specs.Writing.{Writing}
 
 -- counts that were counted otherwise
 tasks-and-others : (tasks twice n named chosen repeats cites listed others : ℕ) → tasks ≡ twice + named + chosen → twice ≡ 2 * n → listed ≡ others

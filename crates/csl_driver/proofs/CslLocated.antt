@@ -5,23 +5,23 @@ use Rattle.std.specs.List.{cons_option, zip}
 use Rattle.std.proofs.lemmas.List.{length-map}
 use Rattle.std.proofs.lemmas.Option.{slice_get-map}
 use Rattle.std.proofs.lemmas.Simd.{map-map}
-use Rattle.csl_arranging.specs.Order.{cites_in_order, final_order, final_request, grouped_cite, handed_order, is_grouped, with_place}
-use Rattle.csl_arranging.specs.Requests.{Request as Arranged}
-use Rattle.csl_arranging.specs.declared.arranged.ArrangedCite.{ArrangedCite}
-use Rattle.csl_arranging.specs.declared.request.CiteStyle.{CiteStyle}
-use Rattle.csl_arranging.specs.declared.request.FinalCite.{FinalCite}
-use Rattle.csl_arranging.specs.declared.request.RequestedCite.{RequestedCite as PlainCite}
-use Rattle.csl_arranging.specs.declared.request.Shown.{Shown}
-use Rattle.csl_blocks.specs.Blocks.{block_order}
-use Rattle.csl_blocks.specs.declared.blocks.PlacedCite.{PlacedCite}
-use Rattle.csl_notes.specs.declared.notes.CiteNotes.{CiteNotes}
-use Rattle.csl_passes.specs.Renders.{CiteRender, ItemRender}
-use Rattle.csl_passes.specs.Request.{Request}
-use Rattle.csl_style_values.specs.Style.{CitationValue}
-use Rattle.csl_tables.specs.Steps.{all_changed}
-use Rattle.csl_told_cites.specs.Arranging.{arranged_by, arranged_finally}
-use Rattle.csl_told_cites.specs.Cites.{ToldValue, told_at, told_cites}
-use Rattle.csl_told_cites.specs.Repeats.{cites_with_shown, with_first_key, with_key, with_shown}
+use Rattle.mentions_arranging.specs.Order.{cites_in_order, final_order, final_request, grouped_cite, handed_order, is_grouped, with_place}
+use Rattle.mentions_arranging.specs.Requests.{Request as Arranged}
+use Rattle.mentions_arranging.specs.declared.arranged.ArrangedCite.{ArrangedCite}
+use Rattle.mentions_arranging.specs.declared.request.CiteStyle.{CiteStyle}
+use Rattle.mentions_arranging.specs.declared.request.FinalCite.{FinalCite}
+use Rattle.mentions_arranging.specs.declared.request.RequestedCite.{RequestedCite as PlainCite}
+use Rattle.mentions_arranging.specs.declared.request.Shown.{Shown}
+use Rattle.mentions_blocks.specs.Blocks.{block_order}
+use Rattle.mentions_blocks.specs.declared.blocks.PlacedCite.{PlacedCite}
+use Rattle.mentions_notes.specs.declared.notes.CiteNotes.{CiteNotes}
+use Rattle.driver_passes.specs.Renders.{CiteRender, ItemRender}
+use Rattle.driver_passes.specs.Request.{Request}
+use Rattle.value_styles.specs.Style.{CitationValue}
+use Rattle.mentions_tables.specs.Steps.{all_changed}
+use Rattle.mentions_cites.specs.Arranging.{arranged_by, arranged_finally}
+use Rattle.mentions_cites.specs.Cites.{ToldValue, told_at, told_cites}
+use Rattle.mentions_cites.specs.Repeats.{cites_with_shown, with_first_key, with_key, with_shown}
 
 module _ {L M : Type 0} (f : L → M) where
   -- a cite with another locator

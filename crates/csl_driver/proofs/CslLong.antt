@@ -5,24 +5,24 @@ use Rattle.std.specs.List.{AllZip, enumerate_from, range_with_len}
 use Rattle.std.proofs.Math.ListN.{length-map}
 use Rattle.std.proofs.lemmas.List.FromFn.{length-enumerate_from, length-range_with_len}
 use Rattle.std.proofs.lemmas.Slice.Zip.{length-zip}
-use Rattle.csl_arranging.specs.Arranged.{arranged_cites, arranged_request}
-use Rattle.csl_arranging.specs.Collapsing.{block_cite, block_cites, block_years, cite_ranges, collapse_of, collapsed_cites, numbered_cite, part_places, shown_cite, suffixed_cite, unranged, whole_in_part, year_collapse}
-use Rattle.csl_arranging.specs.Order.{collapses_years}
-use Rattle.csl_arranging.specs.Positioned.{positioned_cites}
-use Rattle.csl_arranging.specs.Repeating.{repeating_cite, repeating_request}
-use Rattle.csl_arranging.specs.Requests.{Request as Arranged}
-use Rattle.csl_arranging.specs.declared.positioned.PositionedCite.{PositionedCite}
-use Rattle.csl_arranging.specs.declared.request.CiteStyle.{CiteStyle}
-use Rattle.csl_arranging.specs.declared.request.FinalCite.{FinalCite}
-use Rattle.csl_arranging.specs.declared.request.RequestFacts.{RequestFacts}
-use Rattle.csl_blocks.specs.Parts.{part_at}
-use Rattle.csl_blocks.specs.Years.{years}
+use Rattle.mentions_arranging.specs.Arranged.{arranged_cites, arranged_request}
+use Rattle.mentions_arranging.specs.Collapsing.{block_cite, block_cites, block_years, cite_ranges, collapse_of, collapsed_cites, numbered_cite, part_places, shown_cite, suffixed_cite, unranged, whole_in_part, year_collapse}
+use Rattle.mentions_arranging.specs.Order.{collapses_years}
+use Rattle.mentions_arranging.specs.Positioned.{positioned_cites}
+use Rattle.mentions_arranging.specs.Repeating.{repeating_cite, repeating_request}
+use Rattle.mentions_arranging.specs.Requests.{Request as Arranged}
+use Rattle.mentions_arranging.specs.declared.positioned.PositionedCite.{PositionedCite}
+use Rattle.mentions_arranging.specs.declared.request.CiteStyle.{CiteStyle}
+use Rattle.mentions_arranging.specs.declared.request.FinalCite.{FinalCite}
+use Rattle.mentions_arranging.specs.declared.request.RequestFacts.{RequestFacts}
+use Rattle.mentions_blocks.specs.Parts.{part_at}
+use Rattle.mentions_blocks.specs.Years.{years}
 use Rattle.csl_driver.proofs.CslTold.{AreAsLong}
-use Rattle.csl_notes.specs.Repeats.{before_at, positions_behind, repeatable}
-use Rattle.csl_notes.specs.Requests.{Request as Repeating}
-use Rattle.csl_notes.specs.declared.repeats.Position.{Position}
-use Rattle.csl_runs.specs.SuffixStretches.{in_stretch, suffix_stretches}
-use Rattle.csl_style_values.specs.declared.style.Collapse.{Collapse}
+use Rattle.mentions_notes.specs.Repeats.{before_at, positions_behind, repeatable}
+use Rattle.mentions_notes.specs.Requests.{Request as Repeating}
+use Rattle.mentions_notes.specs.declared.repeats.Position.{Position}
+use Rattle.mentions_ranges.specs.SuffixStretches.{in_stretch, suffix_stretches}
+use Rattle.value_styles.specs.declared.style.Collapse.{Collapse}
 use Rattle.std.specs.Option.{option_and_then}
 
 pub both-long : {A B : Type 0} (xs : List A) (ys : List B) (n : ℕ) → length xs ≡ n → length ys ≡ n → length (zip xs ys) ≡ n

@@ -1,25 +1,25 @@
 -- What tells mentions apart, and what a writer is asked for on the way, by plain cites.
 use Rattle.std.proofs.Common.{◌≡◌, ℕ, suc, ◌+◌, Bool, List, [], ◌∷◌, length, map, refl, ap, sym, ◌∙◌, arith}
 use Rattle.std.specs.Prelude.{Err, IfOk, Ok, OnOk, Result}
-use Rattle.csl_values.specs.Answers.{Answers}
-use Rattle.csl_cited_mentions.specs.Cited.{WritesOn, cited, cites, first_task, keeping_of, reading_of}
-use Rattle.csl_cited_mentions.specs.declared.kept.KeptOfMention.{KeptOfMention}
-use Rattle.csl_cited_mentions.specs.declared.kept.Noted.{Noted}
-use Rattle.csl_cited_mentions.specs.declared.mention.CiteMention.{CiteMention}
-use Rattle.csl_mentions.specs.declared.state.MentionState.{MentionState}
-use Rattle.csl_requested_mentions.specs.Plain.{plain}
-use Rattle.csl_tables.specs.Asked.{MentionsWriter, asked_for, keeping, noted_all, reading}
-use Rattle.csl_tables.specs.Tables.{all_tasks, kept_again, kept_at_first, texts_told, third_table, year_suffixes}
-use Rattle.csl_tables.specs.declared.subject.Subject.{Subject}
-use Rattle.csl_tables.specs.declared.tables.Told.{Told}
-use Rattle.csl_tables.proofs.Mapped.{asked-mapped, kept-again-mapped, kept-at-first-mapped, suffixes-mapped, tasks-mapped, texts-mapped, third-mapped}
-use Rattle.csl_told_cites.specs.Mentions.{kept_last, told_mentions}
-use Rattle.csl_writers.specs.Counted.{counted, counted_times}
-use Rattle.csl_writers.specs.Desk.{after, desk}
-use Rattle.csl_writers.specs.Tasks.{CiteTaskValue}
-use Rattle.csl_writers.specs.Writing as writers
-use Rattle.csl_writers.specs.Writing.{WriterState, writing_of}
-use Rattle.csl_writers.proofs.Counting.{counted_times-add}
+use Rattle.value_sources.specs.Answers.{Answers}
+use Rattle.mentions_cited.specs.Cited.{WritesOn, cited, cites, first_task, keeping_of, reading_of}
+use Rattle.mentions_cited.specs.declared.kept.KeptOfMention.{KeptOfMention}
+use Rattle.mentions_cited.specs.declared.kept.Noted.{Noted}
+use Rattle.mentions_cited.specs.declared.mention.CiteMention.{CiteMention}
+use Rattle.mentions_groups.specs.declared.state.MentionState.{MentionState}
+use Rattle.mentions_cited.specs.Plain.{plain}
+use Rattle.mentions_tables.specs.Asked.{MentionsWriter, asked_for, keeping, noted_all, reading}
+use Rattle.mentions_tables.specs.Tables.{all_tasks, kept_again, kept_at_first, texts_told, third_table, year_suffixes}
+use Rattle.mentions_tables.specs.declared.subject.Subject.{Subject}
+use Rattle.mentions_tables.specs.declared.tables.Told.{Told}
+use Rattle.mentions_tables.proofs.Mapped.{asked-mapped, kept-again-mapped, kept-at-first-mapped, suffixes-mapped, tasks-mapped, texts-mapped, third-mapped}
+use Rattle.mentions_cites.specs.Mentions.{kept_last, told_mentions}
+use Rattle.driver_writers.specs.Counted.{counted, counted_times}
+use Rattle.driver_writers.specs.Desk.{after, desk}
+use Rattle.driver_writers.specs.Tasks.{CiteTaskValue}
+use Rattle.driver_writers.specs.Writing as writers
+use Rattle.driver_writers.specs.Writing.{WriterState, writing_of}
+use Rattle.driver_writers.proofs.Counting.{counted_times-add}
 use Rattle.csl_driver.specs.Answer.{Job}
 use Rattle.csl_driver.specs.CslAnswer.{mentions}
 use Rattle.csl_driver.specs.CslParts.{AreToldApart}

@@ -10,23 +10,23 @@ use Rattle.std.proofs.lemmas.List.Elements.{All-append, All-cons, All-filter, Al
 use Rattle.std.proofs.lemmas.List.Sorted.{All-permutation, IsPermutation-map, IsPermutation-refl, length_permutation}
 use Rattle.std.proofs.lemmas.Option.{none-some, same_Some}
 use Rattle.std.proofs.lemmas.Slice.Zip.{length-zip}
-use Rattle.csl_arranging.specs.Order.{cites_in_order, final_cites, final_order, grouped_cite, handed_order, is_grouped, with_place}
-use Rattle.csl_arranging.specs.Requests.{Request as Arranged}
-use Rattle.csl_arranging.specs.declared.request.CiteStyle.{CiteStyle}
-use Rattle.csl_arranging.specs.declared.request.FinalCite.{FinalCite}
-use Rattle.csl_arranging.specs.declared.request.RequestedCite.{RequestedCite as PlainCite}
-use Rattle.csl_arranging.proofs.Ordering.{handed-once, places-within}
-use Rattle.csl_blocks.specs.Blocks.{block, block_order, placed_cites}
-use Rattle.csl_blocks.specs.declared.blocks.GroupedCite.{GroupedCite}
-use Rattle.csl_blocks.specs.declared.blocks.PlacedCite.{PlacedCite}
-use Rattle.csl_blocks.proofs.Placing.{places-from}
+use Rattle.mentions_arranging.specs.Order.{cites_in_order, final_cites, final_order, grouped_cite, handed_order, is_grouped, with_place}
+use Rattle.mentions_arranging.specs.Requests.{Request as Arranged}
+use Rattle.mentions_arranging.specs.declared.request.CiteStyle.{CiteStyle}
+use Rattle.mentions_arranging.specs.declared.request.FinalCite.{FinalCite}
+use Rattle.mentions_arranging.specs.declared.request.RequestedCite.{RequestedCite as PlainCite}
+use Rattle.mentions_arranging.proofs.Ordering.{handed-once, places-within}
+use Rattle.mentions_blocks.specs.Blocks.{block, block_order, placed_cites}
+use Rattle.mentions_blocks.specs.declared.blocks.GroupedCite.{GroupedCite}
+use Rattle.mentions_blocks.specs.declared.blocks.PlacedCite.{PlacedCite}
+use Rattle.mentions_blocks.proofs.Placing.{places-from}
 use Rattle.csl_driver.specs.AnswerLaws.{HasOwnCites, cite_of}
-use Rattle.csl_lookup.specs.Properties.{LocatorValue}
-use Rattle.csl_notes.specs.declared.notes.CiteNotes.{CiteNotes}
-use Rattle.csl_passes.specs.Request.{RequestedCite, Request, placed_from}
-use Rattle.csl_requested_mentions.specs.Handed.{cite_counts}
-use Rattle.csl_told_cites.specs.Cites.{ToldValue, told_at, told_cite, told_cites, told_request}
-use Rattle.csl_told_laws.proofs.Placing.{ends-there}
+use Rattle.driver_lookup.specs.Properties.{LocatorValue}
+use Rattle.mentions_notes.specs.declared.notes.CiteNotes.{CiteNotes}
+use Rattle.driver_passes.specs.Request.{RequestedCite, Request, placed_from}
+use Rattle.mentions_cited.specs.Handed.{cite_counts}
+use Rattle.mentions_cites.specs.Cites.{ToldValue, told_at, told_cite, told_cites, told_request}
+use Rattle.mentions_table_laws.proofs.Placing.{ends-there}
 
 -- ---- the final order of a request
 

@@ -1,25 +1,25 @@
 -- The cites that the code puts in order, whose locators are lent, with what they show, are those of the answer.
 use Rattle.std.proofs.Common.{◌≡◌, Bool, List, Option, ◌++◌, map, ap, sym, ◌∙◌}
 use Rattle.std.specs.Prelude.{flat_map}
-use Rattle.csl_arranging.specs.Order.{final_request}
-use Rattle.csl_arranging.specs.Repeating.{cites_repeated, firsts_repeated}
-use Rattle.csl_arranging.specs.Requests.{Request as Arranged}
-use Rattle.csl_arranging.specs.declared.repeating.Repeated.{Repeated}
-use Rattle.csl_arranging.specs.declared.request.FinalCite.{FinalCite}
-use Rattle.csl_arranging.specs.declared.request.RequestedCite.{RequestedCite as PlainCite}
-use Rattle.csl_arranging.specs.declared.request.Shown.{Shown}
-use Rattle.csl_cited_mentions.specs.declared.kept.KeptOfMention.{KeptOfMention}
-use Rattle.csl_lookup.specs.Properties.{LocatorValue}
-use Rattle.csl_mentions.specs.declared.state.MentionState.{MentionState}
-use Rattle.csl_tables.specs.Steps.{all_changed}
-use Rattle.csl_tables.specs.declared.subject.Subject.{Subject}
-use Rattle.csl_told_cites.specs.Repeats.{cites_with_shown, repeat_tasks, shown_repeats, with_first_key}
-use Rattle.csl_told_cites.specs.declared.mentions.ToldMention.{ToldMention}
-use Rattle.csl_writers.specs.Desk.{Desk, after}
-use Rattle.csl_writers.specs.Tasks.{CiteTaskValue, cite_task}
-use Rattle.csl_writers.specs.Writing.{Writing}
-use Rattle.csl_writers.specs.declared.cite.Cite.{Cite}
-use Rattle.csl_writers.proofs.TasksDone.{after-then}
+use Rattle.mentions_arranging.specs.Order.{final_request}
+use Rattle.mentions_arranging.specs.Repeating.{cites_repeated, firsts_repeated}
+use Rattle.mentions_arranging.specs.Requests.{Request as Arranged}
+use Rattle.mentions_arranging.specs.declared.repeating.Repeated.{Repeated}
+use Rattle.mentions_arranging.specs.declared.request.FinalCite.{FinalCite}
+use Rattle.mentions_arranging.specs.declared.request.RequestedCite.{RequestedCite as PlainCite}
+use Rattle.mentions_arranging.specs.declared.request.Shown.{Shown}
+use Rattle.mentions_cited.specs.declared.kept.KeptOfMention.{KeptOfMention}
+use Rattle.driver_lookup.specs.Properties.{LocatorValue}
+use Rattle.mentions_groups.specs.declared.state.MentionState.{MentionState}
+use Rattle.mentions_tables.specs.Steps.{all_changed}
+use Rattle.mentions_tables.specs.declared.subject.Subject.{Subject}
+use Rattle.mentions_cites.specs.Repeats.{cites_with_shown, repeat_tasks, shown_repeats, with_first_key}
+use Rattle.mentions_cites.specs.declared.mentions.ToldMention.{ToldMention}
+use Rattle.driver_writers.specs.Desk.{Desk, after}
+use Rattle.driver_writers.specs.Tasks.{CiteTaskValue, cite_task}
+use Rattle.driver_writers.specs.Writing.{Writing}
+use Rattle.driver_writers.specs.declared.cite.Cite.{Cite}
+use Rattle.driver_writers.proofs.TasksDone.{after-then}
 use Rattle.csl_driver.specs.Answer.{Job}
 use Rattle.csl_driver.specs.CslAnswer.{keyed, last_kept, mentions, ordered, plain, repeated_cites, repeated_firsts, same_locator, shown_mentions, shown_repeated, states, tasks_repeated}
 use Rattle.csl_driver.specs.CslTasks.{repeat_cite_tasks}

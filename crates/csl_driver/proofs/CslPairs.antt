@@ -2,15 +2,15 @@
 use Rattle.std.proofs.Common.{◌≡◌, ℕ, suc, ◌+◌, Bool, true, false, List, [], ◌∷◌, flat_map, length, map, refl, ap, sym, ◌∙◌}
 use Rattle.std.specs.List.{enumerate_from, range_with_len, zip}
 use Rattle.csl_driver.specs.CslAccount.{every_second}
-use Rattle.csl_mentions.specs.declared.state.MentionState.{MentionState}
-use Rattle.csl_mentions.specs.declared.written.Written.{Written}
-use Rattle.csl_requested_mentions.specs.Homes.{HomeValue}
-use Rattle.csl_requested_mentions.specs.Mentions.{mention, mentions_at}
-use Rattle.csl_tables.specs.Tables.{third_table}
-use Rattle.csl_tables.specs.declared.subject.Subject.{Subject}
-use Rattle.csl_told_laws.specs.Pairs.{AreMentionsInPairs, both_mentions}
-use Rattle.csl_told_laws.proofs.Settled.{settled, third-table}
-use Rattle.csl_writers.specs.Tasks.{CiteTaskValue}
+use Rattle.mentions_groups.specs.declared.state.MentionState.{MentionState}
+use Rattle.mentions_groups.specs.declared.written.Written.{Written}
+use Rattle.mentions_cited.specs.Homes.{HomeValue}
+use Rattle.mentions_cited.specs.Mentions.{mention, mentions_at}
+use Rattle.mentions_tables.specs.Tables.{third_table}
+use Rattle.mentions_tables.specs.declared.subject.Subject.{Subject}
+use Rattle.mentions_table_laws.specs.Pairs.{AreMentionsInPairs, both_mentions}
+use Rattle.mentions_table_laws.proofs.Settled.{settled, third-table}
+use Rattle.driver_writers.specs.Tasks.{CiteTaskValue}
 
 -- two lists, member by member
 abbrev pub by_turns : {X : Type 0} → List X → List X → List X

@@ -7,45 +7,45 @@ use Rattle.std.proofs.Math.ListN.{length-map}
 use Rattle.std.proofs.lemmas.Bool.{not-true}
 use Rattle.std.proofs.lemmas.List.Elements.{All-cons, All-head, All-nil, All-tail}
 use Rattle.std.proofs.lemmas.Option.{get_or_from_slice_get, none-some, same_Some, slice_get-map}
-use Rattle.csl_arranging.specs.Arranged.{arranged_by_years, arranged_cite, arranged_request}
-use Rattle.csl_arranging.specs.Collapsing.{block_years, cite_ranges, collapsed_cites, fits_range, numbered_cite, range_number, suffixed_cite, unranged, years_with_ranges}
-use Rattle.csl_arranging.specs.Requests.{Request as Arranged}
-use Rattle.csl_arranging.specs.declared.arranged.ArrangedCite.{ArrangedCite}
-use Rattle.csl_arranging.specs.declared.request.RequestFacts.{RequestFacts}
-use Rattle.csl_arranging.specs.Positioned.{positioned_cite, positioned_cites}
-use Rattle.csl_arranging.specs.declared.positioned.PositionedCite.{PositionedCite}
-use Rattle.csl_arranging.specs.declared.request.FinalCite.{FinalCite}
-use Rattle.csl_arranging.specs.declared.request.RequestedCite.{RequestedCite as PlainCite}
-use Rattle.csl_blocks.specs.Collapsed.{collapsed, delimiter_of as year_delimiter}
-use Rattle.csl_blocks.specs.declared.years.BlockYear.{BlockYear}
-use Rattle.csl_collapse.specs.NumberLaws.{AreNextShown, WasHid, is_hidden, override_at}
+use Rattle.mentions_arranging.specs.Arranged.{arranged_by_years, arranged_cite, arranged_request}
+use Rattle.mentions_arranging.specs.Collapsing.{block_years, cite_ranges, collapsed_cites, fits_range, numbered_cite, range_number, suffixed_cite, unranged, years_with_ranges}
+use Rattle.mentions_arranging.specs.Requests.{Request as Arranged}
+use Rattle.mentions_arranging.specs.declared.arranged.ArrangedCite.{ArrangedCite}
+use Rattle.mentions_arranging.specs.declared.request.RequestFacts.{RequestFacts}
+use Rattle.mentions_arranging.specs.Positioned.{positioned_cite, positioned_cites}
+use Rattle.mentions_arranging.specs.declared.positioned.PositionedCite.{PositionedCite}
+use Rattle.mentions_arranging.specs.declared.request.FinalCite.{FinalCite}
+use Rattle.mentions_arranging.specs.declared.request.RequestedCite.{RequestedCite as PlainCite}
+use Rattle.mentions_blocks.specs.Collapsed.{collapsed, delimiter_of as year_delimiter}
+use Rattle.mentions_blocks.specs.declared.years.BlockYear.{BlockYear}
+use Rattle.rounds_grouping.specs.NumberLaws.{AreNextShown, WasHid, is_hidden, override_at}
 use Rattle.csl_driver.specs.CslReadBack.{HiddenCanBeReadBack, suffix_of}
 use Rattle.csl_driver.proofs.CslLong.{blocks-long, both-long, ranges-long}
 use Rattle.csl_driver.proofs.CslTold.{AreStanding, Essence, StandsThere, essence, found-there, plain_one}
-use Rattle.csl_entries.specs.Entries.{place}
-use Rattle.csl_lookup.specs.Properties.{LocatorValue}
-use Rattle.csl_notes.specs.declared.notes.CiteNotes.{CiteNotes}
-use Rattle.csl_notes.specs.declared.repeats.Position.{Position}
-use Rattle.csl_passes.specs.Renders.{CiteRender, ItemRender}
-use Rattle.csl_passes.specs.Request.{RequestedCite, Request}
-use Rattle.csl_lookup.specs.Between.{between}
-use Rattle.csl_run_laws.specs.ReadBack.{AreNextShown as AreShownNext, CanBeReadBack as RangesLaw, IsBetweenShown, RangedAreShown, WasHid as IsInside, holds_at, read_at}
-use Rattle.csl_run_laws.proofs.Numbers.{numbers-read-back}
-use Rattle.csl_run_laws.proofs.Suffixes.{suffixes-read-back}
-use Rattle.csl_runs.specs.NumberRanges.{number_ranges}
-use Rattle.csl_runs.specs.SuffixStretches.{suffix_stretches}
-use Rattle.csl_runs.specs.declared.collapsed.CollapsedCite.{CollapsedCite}
-use Rattle.csl_runs.specs.declared.collapsed.Delimiter.{Delimiter}
-use Rattle.csl_runs.specs.declared.numbers.NumberedCite.{NumberedCite}
-use Rattle.csl_runs.specs.declared.suffixes.Suffix.{Suffix}
-use Rattle.csl_runs.specs.declared.suffixes.SuffixedCite.{SuffixedCite}
-use Rattle.csl_style_values.specs.declared.style.Collapse.{Collapse}
-use Rattle.csl_tables.specs.Steps.{all_changed}
-use Rattle.csl_told_cites.specs.Arranging.{arranged_by, arranged_finally, delimiter_of, en_dash}
-use Rattle.csl_told_cites.specs.Cites.{ToldValue, told_at, told_cite, told_cites}
-use Rattle.csl_told_cites.specs.Mentions.{entry_suffix, suffix_number}
-use Rattle.csl_told_cites.specs.Requests.{cite_style, request_facts}
-use Rattle.csl_told_cites.specs.declared.mentions.ToldMention.{ToldMention}
+use Rattle.driver_entries.specs.Entries.{place}
+use Rattle.driver_lookup.specs.Properties.{LocatorValue}
+use Rattle.mentions_notes.specs.declared.notes.CiteNotes.{CiteNotes}
+use Rattle.mentions_notes.specs.declared.repeats.Position.{Position}
+use Rattle.driver_passes.specs.Renders.{CiteRender, ItemRender}
+use Rattle.driver_passes.specs.Request.{RequestedCite, Request}
+use Rattle.driver_lookup.specs.Between.{between}
+use Rattle.mentions_ranges.specs.ReadBack.{AreNextShown as AreShownNext, CanBeReadBack as RangesLaw, IsBetweenShown, RangedAreShown, WasHid as IsInside, holds_at, read_at}
+use Rattle.mentions_ranges.proofs.ReadNumbers.{numbers-read-back}
+use Rattle.mentions_ranges.proofs.ReadSuffixes.{suffixes-read-back}
+use Rattle.mentions_ranges.specs.NumberRanges.{number_ranges}
+use Rattle.mentions_ranges.specs.SuffixStretches.{suffix_stretches}
+use Rattle.mentions_ranges.specs.declared.collapsed.CollapsedCite.{CollapsedCite}
+use Rattle.mentions_ranges.specs.declared.collapsed.Delimiter.{Delimiter}
+use Rattle.mentions_ranges.specs.declared.numbers.NumberedCite.{NumberedCite}
+use Rattle.mentions_ranges.specs.declared.suffixes.Suffix.{Suffix}
+use Rattle.mentions_ranges.specs.declared.suffixes.SuffixedCite.{SuffixedCite}
+use Rattle.value_styles.specs.declared.style.Collapse.{Collapse}
+use Rattle.mentions_tables.specs.Steps.{all_changed}
+use Rattle.mentions_cites.specs.Arranging.{arranged_by, arranged_finally, delimiter_of, en_dash}
+use Rattle.mentions_cites.specs.Cites.{ToldValue, told_at, told_cite, told_cites}
+use Rattle.mentions_cites.specs.Mentions.{entry_suffix, suffix_number}
+use Rattle.mentions_cites.specs.Requests.{cite_style, request_facts}
+use Rattle.mentions_cites.specs.declared.mentions.ToldMention.{ToldMention}
 
 or-second : (a b : Bool) → a ≡ false → a || b ≡ true → b ≡ true
 or-second a b e h = ap (λ x. x || b) (sym e) ∙ h

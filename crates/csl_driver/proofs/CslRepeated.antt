@@ -5,27 +5,27 @@ use Rattle.std.specs.List.{enumerate_from, list_any}
 use Rattle.std.specs.Option.{is_none, option_and_then, option_map, option_or}
 use Rattle.std.proofs.Math.ListN.{length-map}
 use Rattle.std.proofs.lemmas.Option.{slice_get-map}
-use Rattle.csl_arranging.specs.Arranged.{arranged_by_years, arranged_cite, arranged_cites, arranged_request}
-use Rattle.csl_arranging.specs.Collapsing.{block_cite, block_cites, block_years, cite_ranges, collapse_of, collapsed_cites, names_shown, numbered_cite, part_places, range_number, shown_cite, suffixed_cite, unranged, whole_in_part, year_collapse, years_with_ranges}
-use Rattle.csl_arranging.specs.Order.{collapses_years}
-use Rattle.csl_arranging.specs.Positioned.{positioned_cite, positioned_cites}
-use Rattle.csl_arranging.specs.Repeating.{all_repeated, cites_repeated, final_positions, first_repeated, firsts_repeated, handed_positions, handed_request, is_looked_at, placed_cite, repeated_at, repeated_where, repeating_cite, repeating_request}
-use Rattle.csl_arranging.specs.Requests.{Request as Arranged}
-use Rattle.csl_arranging.specs.declared.positioned.PositionedCite.{PositionedCite}
-use Rattle.csl_arranging.specs.declared.request.CiteStyle.{CiteStyle}
-use Rattle.csl_arranging.specs.declared.request.FinalCite.{FinalCite}
-use Rattle.csl_arranging.specs.declared.request.RequestFacts.{RequestFacts}
-use Rattle.csl_arranging.specs.declared.request.RequestedCite.{RequestedCite as PlainCite}
-use Rattle.csl_blocks.specs.Parts.{parts}
-use Rattle.csl_blocks.specs.Years.{years}
-use Rattle.csl_blocks.specs.declared.collapsed.CollapsedYear.{CollapsedYear}
-use Rattle.csl_notes.specs.Repeats.{before_at, cites_other, is_note, may_be_repeated, only_repeatable, position_behind, position_by, positions, positions_behind, repeatable}
-use Rattle.csl_notes.specs.Requests.{Request as Repeating}
-use Rattle.csl_notes.specs.declared.repeats.PlacedCite.{PlacedCite}
-use Rattle.csl_notes.specs.declared.repeats.Position.{Position}
-use Rattle.csl_runs.specs.NumberRanges.{number_ranges}
-use Rattle.csl_runs.specs.SuffixStretches.{suffix_stretches}
-use Rattle.csl_style_values.specs.declared.style.Collapse.{Collapse}
+use Rattle.mentions_arranging.specs.Arranged.{arranged_by_years, arranged_cite, arranged_cites, arranged_request}
+use Rattle.mentions_arranging.specs.Collapsing.{block_cite, block_cites, block_years, cite_ranges, collapse_of, collapsed_cites, names_shown, numbered_cite, part_places, range_number, shown_cite, suffixed_cite, unranged, whole_in_part, year_collapse, years_with_ranges}
+use Rattle.mentions_arranging.specs.Order.{collapses_years}
+use Rattle.mentions_arranging.specs.Positioned.{positioned_cite, positioned_cites}
+use Rattle.mentions_arranging.specs.Repeating.{all_repeated, cites_repeated, final_positions, first_repeated, firsts_repeated, handed_positions, handed_request, is_looked_at, placed_cite, repeated_at, repeated_where, repeating_cite, repeating_request}
+use Rattle.mentions_arranging.specs.Requests.{Request as Arranged}
+use Rattle.mentions_arranging.specs.declared.positioned.PositionedCite.{PositionedCite}
+use Rattle.mentions_arranging.specs.declared.request.CiteStyle.{CiteStyle}
+use Rattle.mentions_arranging.specs.declared.request.FinalCite.{FinalCite}
+use Rattle.mentions_arranging.specs.declared.request.RequestFacts.{RequestFacts}
+use Rattle.mentions_arranging.specs.declared.request.RequestedCite.{RequestedCite as PlainCite}
+use Rattle.mentions_blocks.specs.Parts.{parts}
+use Rattle.mentions_blocks.specs.Years.{years}
+use Rattle.mentions_blocks.specs.declared.collapsed.CollapsedYear.{CollapsedYear}
+use Rattle.mentions_notes.specs.Repeats.{before_at, cites_other, is_note, may_be_repeated, only_repeatable, position_behind, position_by, positions, positions_behind, repeatable}
+use Rattle.mentions_notes.specs.Requests.{Request as Repeating}
+use Rattle.mentions_notes.specs.declared.repeats.PlacedCite.{PlacedCite}
+use Rattle.mentions_notes.specs.declared.repeats.Position.{Position}
+use Rattle.mentions_ranges.specs.NumberRanges.{number_ranges}
+use Rattle.mentions_ranges.specs.SuffixStretches.{suffix_stretches}
+use Rattle.value_styles.specs.declared.style.Collapse.{Collapse}
 use Rattle.csl_driver.proofs.CslLocated.{seen, seen_finally, seen_in_order, seen_request}
 
 before-map : {X Y : Type 0} (g : X → Y) (xs : List X) (k : ℕ) → before_at (map g xs) k ≡ option_map g (before_at xs k)

@@ -1,20 +1,20 @@
 -- What a citation shows of which cites without content are left out.
 use Rattle.std.proofs.Common.{◌≡◌, ℕ, ◌+◌, Bool, true, false, cond, List, [], ◌∷◌, filter, map, refl, ap, ◌∙◌}
 use Rattle.std.specs.List.{enumerate_from}
-use Rattle.csl_assembly.specs.Assembly.{Shown}
-use Rattle.csl_assembly.specs.CitationTree.{shown, shown_cite}
-use Rattle.csl_assembly.specs.WithoutEmpty.{citation_without_empty, has_something}
+use Rattle.driver_assembly.specs.Assembly.{Shown}
+use Rattle.driver_assembly.specs.CitationTree.{shown, shown_cite}
+use Rattle.driver_assembly.specs.WithoutEmpty.{citation_without_empty, has_something}
 use Rattle.csl_driver.specs.AnswerLaws.{places_of}
 use Rattle.csl_driver.specs.CslAnswer.{told_citation, told_citations}
 use Rattle.csl_driver.specs.CslCitations.{cites_seen}
 use Rattle.csl_driver.specs.ShownEntries.{entries_shown}
 use Rattle.csl_driver.proofs.ShownTrees.{all_shown, assembled-shown}
-use Rattle.csl_lookup.specs.Lookup.{Source}
-use Rattle.csl_passes.specs.Purposes.{has_no_purpose}
-use Rattle.csl_passes.specs.Renders.{CiteRender, ItemRender}
-use Rattle.csl_passes.specs.Request.{source_of}
-use Rattle.csl_style_values.specs.Style.{LayoutValue}
-use Rattle.csl_writers.specs.Writing.{Writing}
+use Rattle.driver_lookup.specs.Lookup.{Source}
+use Rattle.driver_passes.specs.Purposes.{has_no_purpose}
+use Rattle.driver_passes.specs.Renders.{CiteRender, ItemRender}
+use Rattle.driver_passes.specs.Request.{source_of}
+use Rattle.value_styles.specs.Style.{LayoutValue}
+use Rattle.driver_writers.specs.Writing.{Writing}
 
 module _ {E P : Type 0} (writing : Writing E P) where
   module _ (r : ℕ) (source : Source) (layout : LayoutValue) where

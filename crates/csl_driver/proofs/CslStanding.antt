@@ -4,26 +4,26 @@ use Rattle.std.specs.Cmp.{IsEquivalence}
 use Rattle.std.specs.List.{AllZip, zip}
 use Rattle.std.proofs.lemmas.List.{length-map}
 use Rattle.std.proofs.lemmas.List.Elements.{All-cons, All-head, All-tail}
-use Rattle.csl_arranging.specs.Requests.{Request as Arranged}
-use Rattle.csl_arranging.specs.declared.arranged.ArrangedCite.{ArrangedCite}
-use Rattle.csl_arranging.specs.declared.request.FinalCite.{FinalCite}
+use Rattle.mentions_arranging.specs.Requests.{Request as Arranged}
+use Rattle.mentions_arranging.specs.declared.arranged.ArrangedCite.{ArrangedCite}
+use Rattle.mentions_arranging.specs.declared.request.FinalCite.{FinalCite}
 use Rattle.csl_driver.specs.Answer.{Job}
 use Rattle.csl_driver.specs.AreCitesOf.{AreCitesOf}
 use Rattle.csl_driver.specs.CslAnswer.{cite_notes}
 use Rattle.csl_driver.proofs.CslCounts.{notes-counted}
 use Rattle.csl_driver.proofs.CslOnce.{AreWhole}
-use Rattle.csl_entries.specs.Entries.{is_in}
-use Rattle.csl_entries.specs.PlacedItems.{ArePlaced, IsPlaced}
-use Rattle.csl_entries.specs.Table.{Table, table_of}
-use Rattle.csl_passes.specs.Renders.{CiteRender, ItemRender}
-use Rattle.csl_lookup.specs.Properties.{LocatorValue}
-use Rattle.csl_passes.specs.Request.{Request}
-use Rattle.csl_positions.specs.FinalProperties.{cited_finally}
-use Rattle.csl_style_values.specs.Style.{CitationValue}
-use Rattle.csl_tables.specs.Steps.{all_changed}
-use Rattle.csl_told_cites.specs.Arranging.{arranged_by, arranged_finally, arranged_request}
-use Rattle.csl_told_cites.specs.Cites.{ToldValue, told_cites}
-use Rattle.csl_told_cites.proofs.Standing.{told-of, told-placed, told-same}
+use Rattle.driver_entries.specs.Entries.{is_in}
+use Rattle.driver_entries.specs.PlacedItems.{ArePlaced, IsPlaced}
+use Rattle.driver_entries.specs.Table.{Table, table_of}
+use Rattle.driver_passes.specs.Renders.{CiteRender, ItemRender}
+use Rattle.driver_lookup.specs.Properties.{LocatorValue}
+use Rattle.driver_passes.specs.Request.{Request}
+use Rattle.driver_positions.specs.FinalProperties.{cited_finally}
+use Rattle.value_styles.specs.Style.{CitationValue}
+use Rattle.mentions_tables.specs.Steps.{all_changed}
+use Rattle.mentions_cites.specs.Arranging.{arranged_by, arranged_finally, arranged_request}
+use Rattle.mentions_cites.specs.Cites.{ToldValue, told_cites}
+use Rattle.mentions_cites.proofs.Standing.{told-of, told-placed, told-same}
 
 -- in the final order
 module _ {E P : Type 0} (eq : E → E → Bool) (job : Job E P) where

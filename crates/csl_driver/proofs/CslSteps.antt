@@ -1,31 +1,31 @@
 -- An answer in which works are told apart as CSL 1.0.2 has it, from its three steps: mentions, bibliography and citations.
 use Rattle.std.proofs.Common.{◌≡◌, ℕ, Bool, List, ◌++◌, Option, ap, ◌∙◌}
 use Rattle.std.specs.Prelude.{option_map}
-use Rattle.csl_values.specs.Answers.{Answers}
-use Rattle.csl_arranging.specs.Arranged.{arranged_cites}
-use Rattle.csl_arranging.specs.Requests.{Request as Arranged}
-use Rattle.csl_arranging.specs.declared.request.FinalCite.{FinalCite}
-use Rattle.csl_assembly.specs.ByMeans.{bibliography_by_means}
-use Rattle.csl_assembly.specs.declared.rendered.Rendered.{Rendered}
-use Rattle.csl_assembly.specs.declared.rendered.RenderedBibliography.{RenderedBibliography}
-use Rattle.csl_assembly.specs.declared.rendered.RenderedCitation.{RenderedCitation}
-use Rattle.csl_cited_mentions.specs.declared.kept.KeptOfMention.{KeptOfMention}
+use Rattle.value_sources.specs.Answers.{Answers}
+use Rattle.mentions_arranging.specs.Arranged.{arranged_cites}
+use Rattle.mentions_arranging.specs.Requests.{Request as Arranged}
+use Rattle.mentions_arranging.specs.declared.request.FinalCite.{FinalCite}
+use Rattle.driver_assembly.specs.ByMeans.{bibliography_by_means}
+use Rattle.driver_assembly.specs.declared.rendered.Rendered.{Rendered}
+use Rattle.driver_assembly.specs.declared.rendered.RenderedBibliography.{RenderedBibliography}
+use Rattle.driver_assembly.specs.declared.rendered.RenderedCitation.{RenderedCitation}
+use Rattle.mentions_cited.specs.declared.kept.KeptOfMention.{KeptOfMention}
 use Rattle.csl_driver.specs.Answer.{Job}
 use Rattle.csl_driver.specs.CslAnswer.{cites_arranged, cites_in_order, item_means, listed, listed_cites, numbers_in_the_end, ordered, rendered_csl, same_locator, told_citations, told_first_cites}
 use Rattle.csl_driver.specs.CslParts.{AreToldApart}
 use Rattle.csl_driver.specs.JobView.{job_of, job_view}
 use Rattle.csl_driver.specs.declared.driver.BibliographyDriver.{BibliographyDriver}
-use Rattle.csl_lookup.specs.Properties.{LocatorValue}
-use Rattle.csl_passes.specs.Renders.{CiteRender}
-use Rattle.csl_passes.specs.Request.{wanted_source}
-use Rattle.csl_passes.specs.declared.request.BibliographyRequest.{BibliographyRequest}
-use Rattle.csl_passes.specs.declared.request.CitationRequest.{CitationRequest}
-use Rattle.csl_tables.specs.declared.tables.Told.{Told}
-use Rattle.csl_told_cites.specs.Arranging.{arranged_finally}
-use Rattle.csl_writers.specs.Desk.{Desk, after}
-use Rattle.csl_writers.specs.Tasks.{TaskValue}
-use Rattle.csl_writers.specs.Writing.{Writing, writing_of}
-use Rattle.csl_writers.proofs.TasksDone.{after-then, writes-same}
+use Rattle.driver_lookup.specs.Properties.{LocatorValue}
+use Rattle.driver_passes.specs.Renders.{CiteRender}
+use Rattle.driver_passes.specs.Request.{wanted_source}
+use Rattle.driver_passes.specs.declared.request.BibliographyRequest.{BibliographyRequest}
+use Rattle.driver_passes.specs.declared.request.CitationRequest.{CitationRequest}
+use Rattle.mentions_tables.specs.declared.tables.Told.{Told}
+use Rattle.mentions_cites.specs.Arranging.{arranged_finally}
+use Rattle.driver_writers.specs.Desk.{Desk, after}
+use Rattle.driver_writers.specs.Tasks.{TaskValue}
+use Rattle.driver_writers.specs.Writing.{Writing, writing_of}
+use Rattle.driver_writers.proofs.TasksDone.{after-then, writes-same}
 
 module _ {E P N : Type 0} (answers : E → Answers) (first items last : List (TaskValue E P)) (start told written end : Desk E P N)
     (told_is : told ≡ after first start) (written_is : written ≡ after items told) (end_is : end ≡ after last written) where

@@ -5,32 +5,32 @@ use Rattle.std.specs.Cmp.{IsEquivalence}
 use Rattle.std.specs.List.{AllZip, cons_option}
 use Rattle.std.proofs.lemmas.List.Elements.{All-append, All-cons, All-head, All-nil, All-tail}
 use Rattle.std.proofs.lemmas.Option.{none-some, same_Some, slice_get-map}
-use Rattle.csl_arranging.specs.Order.{cites_in_order, final_order, final_request, with_place}
-use Rattle.csl_arranging.specs.Requests.{Request as Arranged}
-use Rattle.csl_arranging.specs.declared.arranged.ArrangedCite.{ArrangedCite}
-use Rattle.csl_arranging.specs.declared.request.FinalCite.{FinalCite}
-use Rattle.csl_arranging.specs.declared.request.RequestedCite.{RequestedCite as PlainCite}
-use Rattle.csl_arranging.specs.declared.request.Shown.{Shown}
-use Rattle.csl_blocks.specs.declared.blocks.PlacedCite.{PlacedCite}
-use Rattle.csl_collapse.specs.NumberLaws.{is_hidden}
+use Rattle.mentions_arranging.specs.Order.{cites_in_order, final_order, final_request, with_place}
+use Rattle.mentions_arranging.specs.Requests.{Request as Arranged}
+use Rattle.mentions_arranging.specs.declared.arranged.ArrangedCite.{ArrangedCite}
+use Rattle.mentions_arranging.specs.declared.request.FinalCite.{FinalCite}
+use Rattle.mentions_arranging.specs.declared.request.RequestedCite.{RequestedCite as PlainCite}
+use Rattle.mentions_arranging.specs.declared.request.Shown.{Shown}
+use Rattle.mentions_blocks.specs.declared.blocks.PlacedCite.{PlacedCite}
+use Rattle.rounds_grouping.specs.NumberLaws.{is_hidden}
 use Rattle.csl_driver.specs.CslCitations.{IsArranged, unarranged}
 use Rattle.csl_driver.proofs.CslPairs.{by_turns}
 use Rattle.csl_driver.proofs.ListedKeys.{AreEqual}
-use Rattle.csl_entries.specs.Entries.{place}
-use Rattle.csl_lookup.specs.Properties.{LocatorValue}
-use Rattle.csl_notes.specs.declared.notes.CiteNotes.{CiteNotes}
-use Rattle.csl_passes.specs.Renders.{CiteRender, ItemRender}
-use Rattle.csl_passes.specs.Request.{RequestedCite, Request}
-use Rattle.csl_positions.specs.FinalProperties.{items_finally}
-use Rattle.csl_runs.specs.declared.suffixes.Suffix.{Suffix}
-use Rattle.csl_style_values.specs.Style.{CitationValue}
-use Rattle.csl_tables.specs.Steps.{all_changed}
-use Rattle.csl_told_cites.specs.Arranging.{arranged_by, arranged_finally, arranged_request}
-use Rattle.csl_told_cites.specs.Cites.{ToldValue, told_at, told_cite, told_cites, told_means, told_request}
-use Rattle.csl_told_cites.specs.Mentions.{mention_index}
-use Rattle.csl_told_cites.specs.Repeats.{cites_with_shown, with_first_key, with_key, with_shown}
-use Rattle.csl_told_cites.specs.Requests.{plain_cite, plain_request, plain_requests, request_facts}
-use Rattle.csl_told_cites.specs.declared.mentions.ToldMention.{ToldMention}
+use Rattle.driver_entries.specs.Entries.{place}
+use Rattle.driver_lookup.specs.Properties.{LocatorValue}
+use Rattle.mentions_notes.specs.declared.notes.CiteNotes.{CiteNotes}
+use Rattle.driver_passes.specs.Renders.{CiteRender, ItemRender}
+use Rattle.driver_passes.specs.Request.{RequestedCite, Request}
+use Rattle.driver_positions.specs.FinalProperties.{items_finally}
+use Rattle.mentions_ranges.specs.declared.suffixes.Suffix.{Suffix}
+use Rattle.value_styles.specs.Style.{CitationValue}
+use Rattle.mentions_tables.specs.Steps.{all_changed}
+use Rattle.mentions_cites.specs.Arranging.{arranged_by, arranged_finally, arranged_request}
+use Rattle.mentions_cites.specs.Cites.{ToldValue, told_at, told_cite, told_cites, told_means, told_request}
+use Rattle.mentions_cites.specs.Mentions.{mention_index}
+use Rattle.mentions_cites.specs.Repeats.{cites_with_shown, with_first_key, with_key, with_shown}
+use Rattle.mentions_cites.specs.Requests.{plain_cite, plain_request, plain_requests, request_facts}
+use Rattle.mentions_cites.specs.declared.mentions.ToldMention.{ToldMention}
 
 -- ---- lists whose members are changed by others beside them
 

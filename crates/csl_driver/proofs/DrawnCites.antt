@@ -3,18 +3,18 @@ use Rattle.std.proofs.Common.{◌≡◌, ℕ, zero, suc, ◌+◌, ◌&&◌, Bool
 use Rattle.std.specs.Prelude.{if◌then◌else◌}
 use Rattle.std.specs.List.{enumerate_from}
 use Rattle.std.proofs.lemmas.Bool.{or_left}
-use Rattle.csl_style_values.specs.Style.{CitationValue}
-use Rattle.csl_style_values.specs.declared.style.Collapse.{Collapse}
-use Rattle.csl_style_values.specs.declared.style.Collapse.TheVariants.{CitationNumber, Year, YearSuffix, YearSuffixRanged}
-use Rattle.csl_collapse.specs.Collapsed.{collapsed, collapsed_by, collapsed_cites, collapsed_finally}
-use Rattle.csl_collapse.specs.NumberLaws.{CanBeReadBack, is_hidden}
-use Rattle.csl_collapse.specs.NumberRuns.{is_inner, shown_number}
-use Rattle.csl_collapse.specs.Stretches.{after_collapse}
-use Rattle.csl_collapse.specs.YearStretches.{cut_to_date, cut_to_suffix, follows_stretch, has_later_suffix, is_later_in_stretch, year_collapsed}
+use Rattle.value_styles.specs.Style.{CitationValue}
+use Rattle.value_styles.specs.declared.style.Collapse.{Collapse}
+use Rattle.value_styles.specs.declared.style.Collapse.TheVariants.{CitationNumber, Year, YearSuffix, YearSuffixRanged}
+use Rattle.rounds_grouping.specs.Collapsed.{collapsed, collapsed_by, collapsed_cites, collapsed_finally}
+use Rattle.rounds_grouping.specs.NumberLaws.{CanBeReadBack, is_hidden}
+use Rattle.rounds_grouping.specs.NumberRuns.{is_inner, shown_number}
+use Rattle.rounds_grouping.specs.Stretches.{after_collapse}
+use Rattle.rounds_grouping.specs.YearStretches.{cut_to_date, cut_to_suffix, follows_stretch, has_later_suffix, is_later_in_stretch, year_collapsed}
 use Rattle.csl_driver.specs.AnswerLaws.{IsReadBack, uncollapsed}
 use Rattle.csl_driver.proofs.Standing.{same-changed}
-use Rattle.csl_passes.specs.Purposes.{has_no_purpose}
-use Rattle.csl_passes.specs.Renders.{CiteRender, ItemRender}
+use Rattle.driver_passes.specs.Purposes.{has_no_purpose}
+use Rattle.driver_passes.specs.Renders.{CiteRender, ItemRender}
 
 module _ {E P : Type 0} where
   -- where years are collapsed

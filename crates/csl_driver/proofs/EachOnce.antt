@@ -5,10 +5,10 @@ use Rattle.std.specs.Cmp.{IsEquivalence}
 use Rattle.std.specs.List.{position_or_len}
 use Rattle.std.specs.List.Sorted.{IsPermutation}
 use Rattle.std.proofs.lemmas.List.Sorted.{IsPermutation-cons, IsPermutation-filter_both, IsPermutation-map, IsPermutation-refl, IsPermutation-sym, IsPermutation-trans}
-use Rattle.csl_entries.specs.Entries.{is_in, number, place}
-use Rattle.csl_entries.specs.Laws.{NoTwoEqual}
-use Rattle.csl_entries.proofs.Distinct.{is_in-equal, is_in-others, others}
-use Rattle.csl_entries.proofs.Once.{NoTwoEqual-filter}
+use Rattle.driver_entries.specs.Entries.{is_in, number, place}
+use Rattle.driver_entries.specs.Laws.{NoTwoEqual}
+use Rattle.driver_entries.proofs.Distinct.{is_in-equal, is_in-others, others}
+use Rattle.driver_entries.proofs.Once.{NoTwoEqual-filter}
 
 or-true : (a : Bool) → a ≡ true → (b : Bool) → (a || b) ≡ true
 or-true true h b = refl

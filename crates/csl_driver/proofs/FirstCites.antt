@@ -8,13 +8,13 @@ use Rattle.std.proofs.Math.ListN.{length-map}
 use Rattle.std.proofs.lemmas.List.Elements.{All-get_or, filter_map-append}
 use Rattle.std.proofs.lemmas.Bool.{or_right}
 use Rattle.std.proofs.lemmas.Option.{slice_get-get_or, slice_get-map}
-use Rattle.csl_assembly.specs.BibliographyItems.{cites_at}
-use Rattle.csl_entries.specs.Entries.{is_in, place}
-use Rattle.csl_name_marks.proofs.Marking.{filter_map-more, filter_map-same}
-use Rattle.csl_passes.specs.Places.{cite_at}
-use Rattle.csl_passes.specs.Renders.{CiteRender, ItemRender, Place}
-use Rattle.csl_passes.specs.Request.{Request}
-use Rattle.csl_positions.specs.FinalProperties.{AreFirstItems, first_item, item_at, items_finally}
+use Rattle.driver_assembly.specs.BibliographyItems.{cites_at}
+use Rattle.driver_entries.specs.Entries.{is_in, place}
+use Rattle.rounds_names.proofs.Marking.{filter_map-more, filter_map-same}
+use Rattle.driver_passes.specs.Places.{cite_at}
+use Rattle.driver_passes.specs.Renders.{CiteRender, ItemRender, Place}
+use Rattle.driver_passes.specs.Request.{Request}
+use Rattle.driver_positions.specs.FinalProperties.{AreFirstItems, first_item, item_at, items_finally}
 
 module _ {E P : Type 0} (eq : E → E → Bool) (entries : List E) (cites : List (CiteRender E P)) where
   -- the first cite of the entry at a place

@@ -5,16 +5,16 @@ use Rattle.std.specs.List.{AllZip, enumerate_from}
 use Rattle.std.proofs.Math.Seq.{take-append_seam}
 use Rattle.std.proofs.lemmas.List.Elements.{All-cons, All-nil}
 use Rattle.std.proofs.lemmas.Option.{slice_get-map}
-use Rattle.csl_ambiguity.proofs.Sifted.{after}
-use Rattle.csl_writers.specs.Writing.{Writing}
-use Rattle.csl_entries.specs.Entries.{distinct, place}
-use Rattle.csl_entries.specs.PlacedItems.{IsPlaced}
-use Rattle.csl_entries.specs.Table.{Table, places_in, table_of}
-use Rattle.csl_passes.specs.Renders.{CiteRender}
-use Rattle.csl_passes.specs.Request.{RequestedCite, Request, cited, entries_of}
-use Rattle.csl_passes.specs.declared.first.FirstProperties.{FirstProperties}
-use Rattle.csl_positions.specs.FirstProperties.{cite_properties, first_properties, request_properties}
-use Rattle.csl_round_laws.specs.FirstRenders.{HasShapeOf, first_render, first_renders, first_renders_of}
+use Rattle.rounds_ambiguity.proofs.Sifted.{after}
+use Rattle.driver_writers.specs.Writing.{Writing}
+use Rattle.driver_entries.specs.Entries.{distinct, place}
+use Rattle.driver_entries.specs.PlacedItems.{IsPlaced}
+use Rattle.driver_entries.specs.Table.{Table, places_in, table_of}
+use Rattle.driver_passes.specs.Renders.{CiteRender}
+use Rattle.driver_passes.specs.Request.{RequestedCite, Request, cited, entries_of}
+use Rattle.driver_passes.specs.declared.first.FirstProperties.{FirstProperties}
+use Rattle.driver_positions.specs.FirstProperties.{cite_properties, first_properties, request_properties}
+use Rattle.rounds_runs.specs.FirstRenders.{HasShapeOf, first_render, first_renders, first_renders_of}
 
 module _ {X A : Type 0} (f : List X → X → A) (ys : List X) where
   -- what f gives of members that stand from a place on, and of those before each

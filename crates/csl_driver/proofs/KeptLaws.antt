@@ -8,10 +8,10 @@ use Rattle.std.proofs.lemmas.List.Elements.{All-cons, All-nil}
 use Rattle.std.proofs.lemmas.List.Sorted.{length_permutation}
 use Rattle.std.proofs.Math.ListN.{length-map}
 use Rattle.std.proofs.lemmas.Bool.{or_left, or_right}
-use Rattle.csl_assembly.specs.declared.rendered.Rendered.{Rendered}
-use Rattle.csl_writers.specs.Writing.{Writing}
-use Rattle.csl_collapse.specs.Collapsed.{collapsed, collapsed_finally}
-use Rattle.csl_collapse.specs.NumberLaws.{CanBeReadBack}
+use Rattle.driver_assembly.specs.declared.rendered.Rendered.{Rendered}
+use Rattle.driver_writers.specs.Writing.{Writing}
+use Rattle.rounds_grouping.specs.Collapsed.{collapsed, collapsed_finally}
+use Rattle.rounds_grouping.specs.NumberLaws.{CanBeReadBack}
 use Rattle.csl_driver.specs.Answer.{Job, entries_listed, final_number, in_final_order, in_the_end, numbered_finally, used_order, rendered_first}
 use Rattle.csl_driver.specs.AnswerLaws.{AreInOrder, ComeFrom, HaveNumbersOnce, IsBroughtTogether, IsReadBack, IsSettled, KeepsLaws, entries_in, number_in, numbers_in, unsettled}
 use Rattle.csl_driver.specs.AreCitesOf.{AreCitesOf}
@@ -28,24 +28,24 @@ use Rattle.csl_driver.proofs.ListedKeys.{lists-each-once}
 use Rattle.csl_driver.proofs.OwnCites.{settled-own}
 use Rattle.csl_driver.proofs.ShownTrees.{citations-shown}
 use Rattle.csl_driver.proofs.Standing.{drawn-requests, final-stand, grouped-request, ordered-stand, same-changed}
-use Rattle.csl_entries.specs.Entries.{bibliography_order, distinct, is_in, number}
-use Rattle.csl_entries.specs.Laws.{HoldsEachOnce, NoTwoEqual, NumbersWithoutGaps}
-use Rattle.csl_entries.specs.Table.{table_of}
-use Rattle.csl_entries.proofs.Distinct.{is_in-distinct}
-use Rattle.csl_entries.proofs.Placed.{map-map}
-use Rattle.csl_grouping.specs.Blocks.{grouped, is_grouped}
-use Rattle.csl_grouping.specs.FinalOrder.{HasFinalOrder}
-use Rattle.csl_passes.specs.Renders.{CiteRender}
-use Rattle.csl_passes.specs.Request.{Request, cited}
-use Rattle.csl_passes.specs.declared.first.FirstProperties.{FirstProperties}
-use Rattle.csl_positions.specs.FinalProperties.{cited_finally, items_before, with_final, with_final_items, with_final_properties}
-use Rattle.csl_positions.specs.FirstProperties.{first_properties}
-use Rattle.csl_round_laws.specs.FirstRenders.{first_renders}
-use Rattle.csl_round_laws.specs.RoundMarks.{has_any}
-use Rattle.csl_round_laws.specs.Rounds.{StateTable, no_states, told_by, with_marks}
-use Rattle.csl_round_laws.specs.RunLaws.{Ended, IsLawful}
-use Rattle.csl_round_laws.specs.Tables.{disambiguated, last_table, marked_at, marks_at, most_rounds, rounds, tables, tables_from}
-use Rattle.csl_round_laws.specs.declared.mode.RoundMode.{RoundMode}
+use Rattle.driver_entries.specs.Entries.{bibliography_order, distinct, is_in, number}
+use Rattle.driver_entries.specs.Laws.{HoldsEachOnce, NoTwoEqual, NumbersWithoutGaps}
+use Rattle.driver_entries.specs.Table.{table_of}
+use Rattle.driver_entries.proofs.Distinct.{is_in-distinct}
+use Rattle.driver_entries.proofs.Placed.{map-map}
+use Rattle.rounds_grouping.specs.Blocks.{grouped, is_grouped}
+use Rattle.rounds_grouping.specs.FinalOrder.{HasFinalOrder}
+use Rattle.driver_passes.specs.Renders.{CiteRender}
+use Rattle.driver_passes.specs.Request.{Request, cited}
+use Rattle.driver_passes.specs.declared.first.FirstProperties.{FirstProperties}
+use Rattle.driver_positions.specs.FinalProperties.{cited_finally, items_before, with_final, with_final_items, with_final_properties}
+use Rattle.driver_positions.specs.FirstProperties.{first_properties}
+use Rattle.rounds_runs.specs.FirstRenders.{first_renders}
+use Rattle.rounds_runs.specs.RoundMarks.{has_any}
+use Rattle.rounds_runs.specs.Rounds.{StateTable, no_states, told_by, with_marks}
+use Rattle.rounds_runs.specs.RunLaws.{Ended, IsLawful}
+use Rattle.rounds_runs.specs.Tables.{disambiguated, last_table, marked_at, marks_at, most_rounds, rounds, tables, tables_from}
+use Rattle.rounds_runs.specs.declared.mode.RoundMode.{RoundMode}
 
 -- place by place
 zip-mapped : {X Y : Type 0} (R : X → Y → Type 0) (f : X → Y) → ((x : X) → R x (f x)) → (xs : List X) → AllZip R xs (map f xs)

@@ -5,18 +5,18 @@ use Rattle.std.specs.Cmp.{IsEquivalence}
 use Rattle.std.specs.List.{cons_option, enumerate_from, filter_map}
 use Rattle.std.proofs.lemmas.List.{map-append}
 use Rattle.std.proofs.lemmas.List.Elements.{All-cons, All-head, All-nil, All-tail}
-use Rattle.csl_assembly.specs.declared.by_means.ItemMeans.{ItemMeans}
+use Rattle.driver_assembly.specs.declared.by_means.ItemMeans.{ItemMeans}
 use Rattle.csl_driver.specs.AreCitesOf.{AreCitesOf}
 use Rattle.csl_driver.specs.CslAnswer.{listed_cites}
-use Rattle.csl_entries.specs.Entries.{bibliography_order, is_in}
-use Rattle.csl_entries.specs.Table.{Table, table_of}
-use Rattle.csl_entries.proofs.Distinct.{is_in-distinct}
-use Rattle.csl_entries.proofs.ListedPlaces.{all-cited}
-use Rattle.csl_entries.proofs.Once.{holds_each_once}
-use Rattle.csl_entries.proofs.Placing.{all_in, left, right}
-use Rattle.csl_passes.specs.Renders.{CiteRender, ItemRender}
-use Rattle.csl_passes.specs.Request.{Request, cited}
-use Rattle.csl_positions.specs.FinalProperties.{cited_finally, first_item, items_finally}
+use Rattle.driver_entries.specs.Entries.{bibliography_order, is_in}
+use Rattle.driver_entries.specs.Table.{Table, table_of}
+use Rattle.driver_entries.proofs.Distinct.{is_in-distinct}
+use Rattle.driver_entries.proofs.ListedPlaces.{all-cited}
+use Rattle.driver_entries.proofs.Once.{holds_each_once}
+use Rattle.driver_entries.proofs.Placing.{all_in, left, right}
+use Rattle.driver_passes.specs.Renders.{CiteRender, ItemRender}
+use Rattle.driver_passes.specs.Request.{Request, cited}
+use Rattle.driver_positions.specs.FinalProperties.{cited_finally, first_item, items_finally}
 
 -- where each member gives one, there are as many
 all-found : {A B : Type 0} (f : A → Option B) (xs : List A) → All (λ x. is_some (f x) ≡ true) xs → length (filter_map f xs) ≡ length xs

@@ -7,23 +7,23 @@ use Rattle.std.specs.List.Sorted.{IsPermutation}
 use Rattle.std.proofs.Math.ListN.{length-map}
 use Rattle.std.proofs.lemmas.List.Elements.{All-head, All-tail}
 use Rattle.std.proofs.lemmas.List.Sorted.{length_permutation}
-use Rattle.csl_assembly.specs.BibliographyItems.{bibliography_of, with_first_field, written_item}
-use Rattle.csl_assembly.specs.declared.rendered.RenderedBibliography.{RenderedBibliography}
-use Rattle.csl_style_values.specs.Style.{BibliographyValue}
-use Rattle.csl_style_values.specs.declared.style.SubsequentAuthorSubstituteRule.{SubsequentAuthorSubstituteRule}
+use Rattle.driver_assembly.specs.BibliographyItems.{bibliography_of, with_first_field, written_item}
+use Rattle.driver_assembly.specs.declared.rendered.RenderedBibliography.{RenderedBibliography}
+use Rattle.value_styles.specs.Style.{BibliographyValue}
+use Rattle.value_styles.specs.declared.style.SubsequentAuthorSubstituteRule.{SubsequentAuthorSubstituteRule}
 use Rattle.csl_driver.specs.Answer.{Job, entries_listed}
 use Rattle.csl_driver.specs.ListedOnce.{EqualHaveEqualKeys, ListsEachOnce, key_of, keys_of}
 use Rattle.csl_driver.proofs.EachOnce.{permuted}
-use Rattle.csl_entries.specs.Entries.{is_in}
-use Rattle.csl_entries.specs.Laws.{NoTwoEqual}
-use Rattle.csl_entries.proofs.Distinct.{is_in-equal}
-use Rattle.csl_entries.proofs.Placed.{map-map}
-use Rattle.csl_lookup.specs.Lookup.{Source}
-use Rattle.csl_passes.specs.Renders.{CiteRender, ItemRender}
-use Rattle.csl_passes.specs.Request.{wanted_source}
-use Rattle.csl_positions.specs.FinalProperties.{first_item, items_finally}
-use Rattle.csl_substitution.specs.Substitution.{Item, item_after, substituted, substitute_text}
-use Rattle.csl_writers.specs.Writing.{Writing}
+use Rattle.driver_entries.specs.Entries.{is_in}
+use Rattle.driver_entries.specs.Laws.{NoTwoEqual}
+use Rattle.driver_entries.proofs.Distinct.{is_in-equal}
+use Rattle.driver_entries.proofs.Placed.{map-map}
+use Rattle.driver_lookup.specs.Lookup.{Source}
+use Rattle.driver_passes.specs.Renders.{CiteRender, ItemRender}
+use Rattle.driver_passes.specs.Request.{wanted_source}
+use Rattle.driver_positions.specs.FinalProperties.{first_item, items_finally}
+use Rattle.rounds_substitution.specs.Substitution.{Item, item_after, substituted, substitute_text}
+use Rattle.driver_writers.specs.Writing.{Writing}
 
 -- where each member gives one, these are what they give
 all-given : {A B : Type 0} (f : A → Option B) (xs : List A) → All (λ x. is_some (f x) ≡ true) xs → map f xs ≡ map Some (filter_map f xs)

@@ -5,18 +5,18 @@ use Rattle.std.specs.Cmp.{IsEquivalence}
 use Rattle.std.proofs.lemmas.List.Elements.{All-cons, All-nil}
 use Rattle.csl_driver.specs.Cited.{IsCitedBy, listed_number, numbers_at}
 use Rattle.csl_driver.specs.declared.cited.Cited.{Cited}
-use Rattle.csl_entries.specs.Entries.{bibliography_order, distinct, number}
-use Rattle.csl_entries.specs.Laws.{NoTwoEqual}
-use Rattle.csl_entries.specs.Listed.{IsListingOf, Listed}
-use Rattle.csl_entries.specs.ListingView.{listing_view}
-use Rattle.csl_entries.specs.Table.{Table, places_in, table_of}
-use Rattle.csl_entries.specs.TableView.{table_view}
-use Rattle.csl_entries.proofs.Distinct.{is_in-distinct}
-use Rattle.csl_entries.proofs.ListedPlaces.{all-cited, places-below}
-use Rattle.csl_entries.proofs.Once.{NoTwoEqual-distinct}
-use Rattle.csl_entries.proofs.Placing.{all_in, all_in-behind, all_in-front}
-use Rattle.csl_passes.specs.Request.{Request, cited, entries_of}
-use Rattle.csl_positions.specs.FirstProperties.{numbered_by}
+use Rattle.driver_entries.specs.Entries.{bibliography_order, distinct, number}
+use Rattle.driver_entries.specs.Laws.{NoTwoEqual}
+use Rattle.driver_entries.specs.Listed.{IsListingOf, Listed}
+use Rattle.driver_entries.specs.ListingView.{listing_view}
+use Rattle.driver_entries.specs.Table.{Table, places_in, table_of}
+use Rattle.driver_entries.specs.TableView.{table_view}
+use Rattle.driver_entries.proofs.Distinct.{is_in-distinct}
+use Rattle.driver_entries.proofs.ListedPlaces.{all-cited, places-below}
+use Rattle.driver_entries.proofs.Once.{NoTwoEqual-distinct}
+use Rattle.driver_entries.proofs.Placing.{all_in, all_in-behind, all_in-front}
+use Rattle.driver_passes.specs.Request.{Request, cited, entries_of}
+use Rattle.driver_positions.specs.FirstProperties.{numbered_by}
 use Rattle.csl_driver.proofs.Counted.{fits, numbered, one-behind}
 
 module _ {E : Type 0} (eq : E → E → Bool) (laws : IsEquivalence eq) where

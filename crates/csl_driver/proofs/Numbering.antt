@@ -1,10 +1,10 @@
 -- By which entries the final numbers go.
 use Rattle.std.proofs.Common.{◌≡◌, Bool, List, Option, Some, None, refl}
 use Rattle.csl_driver.specs.Answer.{numbered_finally}
-use Rattle.csl_entries.specs.Entries.{bibliography_order, distinct}
-use Rattle.csl_passes.specs.Renders.{CiteRender}
-use Rattle.csl_passes.specs.Request.{Request, cited}
-use Rattle.csl_positions.specs.FinalProperties.{cited_finally}
+use Rattle.driver_entries.specs.Entries.{bibliography_order, distinct}
+use Rattle.driver_passes.specs.Renders.{CiteRender}
+use Rattle.driver_passes.specs.Request.{Request, cited}
+use Rattle.driver_positions.specs.FinalProperties.{cited_finally}
 
 module _ {E P : Type 0} (eq : E → E → Bool) (requests : List (Request E P)) (cites : List (CiteRender E P)) (order : Option (List E)) where
   -- the bibliography's where an order is used

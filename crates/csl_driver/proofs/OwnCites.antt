@@ -11,22 +11,22 @@ use Rattle.csl_driver.specs.Answer.{Job, entries_listed, in_final_order, rendere
 use Rattle.csl_driver.specs.AnswerLaws.{HasOwnCites, cite_of}
 use Rattle.csl_driver.proofs.FirstPlaced.{from}
 use Rattle.csl_driver.proofs.Standing.{all-changed, all-mapped, grouped-request, same-changed}
-use Rattle.csl_entries.specs.Entries.{number}
-use Rattle.csl_entries.proofs.Placed.{map-map}
-use Rattle.csl_grouping.specs.Blocks.{grouped, is_grouped}
-use Rattle.csl_grouping.specs.FinalOrder.{HasFinalOrder}
-use Rattle.csl_grouping.specs.Laws.{bare}
-use Rattle.csl_grouping.proofs.Kept.{places-seen}
-use Rattle.csl_lookup.specs.declared.state.DisambiguateState.{DisambiguateState}
-use Rattle.csl_passes.specs.Renders.{CiteRender, ItemRender}
-use Rattle.csl_passes.specs.Request.{Request, RequestedCite, placed_from}
-use Rattle.csl_positions.specs.FinalProperties.{items_before, with_final, with_final_items, with_final_properties}
-use Rattle.csl_positions.specs.FirstProperties.{cite_properties, first_properties, request_properties}
-use Rattle.csl_round_laws.specs.FirstRenders.{first_render, first_renders, first_renders_of}
-use Rattle.csl_round_laws.specs.Rounds.{StateTable, request_at, with_any}
-use Rattle.csl_round_laws.specs.Tables.{disambiguated, last_states}
-use Rattle.csl_round_laws.specs.declared.mode.RoundMode.{RoundMode}
-use Rattle.csl_writers.specs.Writing.{Writing}
+use Rattle.driver_entries.specs.Entries.{number}
+use Rattle.driver_entries.proofs.Placed.{map-map}
+use Rattle.rounds_grouping.specs.Blocks.{grouped, is_grouped}
+use Rattle.rounds_grouping.specs.FinalOrder.{HasFinalOrder}
+use Rattle.rounds_grouping.specs.Laws.{bare}
+use Rattle.rounds_grouping.proofs.Kept.{places-seen}
+use Rattle.driver_lookup.specs.declared.state.DisambiguateState.{DisambiguateState}
+use Rattle.driver_passes.specs.Renders.{CiteRender, ItemRender}
+use Rattle.driver_passes.specs.Request.{Request, RequestedCite, placed_from}
+use Rattle.driver_positions.specs.FinalProperties.{items_before, with_final, with_final_items, with_final_properties}
+use Rattle.driver_positions.specs.FirstProperties.{cite_properties, first_properties, request_properties}
+use Rattle.rounds_runs.specs.FirstRenders.{first_render, first_renders, first_renders_of}
+use Rattle.rounds_runs.specs.Rounds.{StateTable, request_at, with_any}
+use Rattle.rounds_runs.specs.Tables.{disambiguated, last_states}
+use Rattle.rounds_runs.specs.declared.mode.RoundMode.{RoundMode}
+use Rattle.driver_writers.specs.Writing.{Writing}
 
 module _ {E P : Type 0} where
   abbrev requested_in : List (ItemRender E P) → List (RequestedCite E P)

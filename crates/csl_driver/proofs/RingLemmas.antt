@@ -4,8 +4,8 @@ use Rattle.std.proofs.Math.ListN.{get_or-map, length-map}
 use Rattle.std.proofs.lemmas.List.{take_all}
 use Rattle.std.proofs.lemmas.List.Elements.{All-more}
 use Rattle.std.proofs.lemmas.Option.{slice_get-get_or}
-use Rattle.csl_style_values.specs.Ring.{HasNoRing, IsFirstRing}
-use Rattle.csl_passes.specs.Request.{Request}
+use Rattle.value_styles.specs.Ring.{HasNoRing, IsFirstRing}
+use Rattle.driver_passes.specs.Request.{Request}
 use Rattle.csl_driver.specs.Rings.{NoRingIn, IsFirstRingAt}
 
 module _ {E P : Type 0} where

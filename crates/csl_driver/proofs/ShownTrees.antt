@@ -3,23 +3,23 @@ use Rattle.std.proofs.Common.{◌≡◌, ℕ, ◌+◌, Bool, true, false, cond, 
 use Rattle.std.specs.Prelude.{if◌then◌else◌}
 use Rattle.std.specs.List.{cons_option, enumerate_from, flat_map}
 use Rattle.std.proofs.lemmas.List.Elements.{filter_map-append}
-use Rattle.csl_assembly.specs.Assembly.{Shown, assembled, behind_delimiter, enclosed_cites, joined_cites, layout_formatting, text_child, text_ends_with, with_layout_suffix}
-use Rattle.csl_assembly.specs.CitationTree.{citation_tree, shown, shown_cite}
-use Rattle.csl_style_values.specs.Style.{LayoutValue}
-use Rattle.csl_trees.specs.Tree.{last_text}
-use Rattle.csl_values.specs.declared.formatting.Formatting.{Formatting}
-use Rattle.csl_lookup.specs.Lookup.{Source}
-use Rattle.csl_passes.specs.Purposes.{has_no_purpose}
-use Rattle.csl_passes.specs.Renders.{CiteRender, ItemRender}
-use Rattle.csl_passes.specs.Request.{source_of}
-use Rattle.csl_writers.specs.Writing.{Writing}
+use Rattle.driver_assembly.specs.Assembly.{Shown, assembled, behind_delimiter, enclosed_cites, joined_cites, layout_formatting, text_child, text_ends_with, with_layout_suffix}
+use Rattle.driver_assembly.specs.CitationTree.{citation_tree, shown, shown_cite}
+use Rattle.value_styles.specs.Style.{LayoutValue}
+use Rattle.value_trees.specs.Tree.{last_text}
+use Rattle.value_sources.specs.declared.formatting.Formatting.{Formatting}
+use Rattle.driver_lookup.specs.Lookup.{Source}
+use Rattle.driver_passes.specs.Purposes.{has_no_purpose}
+use Rattle.driver_passes.specs.Renders.{CiteRender, ItemRender}
+use Rattle.driver_passes.specs.Request.{source_of}
+use Rattle.driver_writers.specs.Writing.{Writing}
 use Rattle.csl_driver.specs.Answer.{citations_of, citation_of}
 use Rattle.csl_driver.specs.AnswerLaws.{places_of}
-use Rattle.csl_trees.specs.Child.{Child, text, elem, markup, link, transparent, Kids, no_kids, kid, kids_of, list_of, list_of-kids_of}
-use Rattle.csl_trees.specs.Simplify.{joins, joined, join_first, child_simple, kids_simple, simplified}
-use Rattle.csl_trees.specs.declared.elem.ElemMeta.{ElemMeta}
-use Rattle.csl_trees.specs.declared.elem.ElemMeta.TheVariants as meta
-use Rattle.csl_values.specs.declared.formatting.Display.{Display}
+use Rattle.value_trees.specs.Child.{Child, text, elem, markup, link, transparent, Kids, no_kids, kid, kids_of, list_of, list_of-kids_of}
+use Rattle.value_trees.specs.Simplify.{joins, joined, join_first, child_simple, kids_simple, simplified}
+use Rattle.value_trees.specs.declared.elem.ElemMeta.{ElemMeta}
+use Rattle.value_trees.specs.declared.elem.ElemMeta.TheVariants as meta
+use Rattle.value_sources.specs.declared.formatting.Display.{Display}
 use Rattle.csl_driver.specs.ShownEntries.{entries_shown, entry_shown}
 
 -- of an element it doesn't matter what is inside

@@ -8,24 +8,24 @@ use Rattle.std.proofs.lemmas.List.Concat.{length-flat_map}
 use Rattle.std.proofs.lemmas.List.FromFn.{length-range_with_len}
 use Rattle.std.proofs.lemmas.List.Sorted.{length_permutation}
 use Rattle.std.proofs.lemmas.List.Sums.{sum_by-cons}
-use Rattle.csl_writers.specs.Writing.{Writing}
-use Rattle.csl_style_values.specs.Style.{CitationValue}
-use Rattle.csl_style_values.specs.declared.style.Collapse.{Collapse}
-use Rattle.csl_collapse.specs.Collapsed.{collapsed, collapsed_cites, collapsed_finally}
+use Rattle.driver_writers.specs.Writing.{Writing}
+use Rattle.value_styles.specs.Style.{CitationValue}
+use Rattle.value_styles.specs.declared.style.Collapse.{Collapse}
+use Rattle.rounds_grouping.specs.Collapsed.{collapsed, collapsed_cites, collapsed_finally}
 use Rattle.csl_driver.specs.Answer.{Job, entries_listed, final_number, in_final_order, in_the_end, rendered_first}
 use Rattle.csl_driver.proofs.FirstPlaced.{first-cited}
-use Rattle.csl_entries.specs.Entries.{number}
-use Rattle.csl_grouping.specs.Blocks.{final_order, group_delimiter, grouped, grouped_cites, is_grouped}
-use Rattle.csl_grouping.specs.Laws.{bare}
-use Rattle.csl_grouping.proofs.OrderLaws.{ordered}
-use Rattle.csl_grouping.proofs.Whole.{final-permuted}
-use Rattle.csl_passes.specs.Purposes.{has_no_purpose}
-use Rattle.csl_passes.specs.Renders.{CiteRender, ItemRender}
-use Rattle.csl_passes.specs.Request.{cites_of, entries_of}
-use Rattle.csl_positions.specs.FinalProperties.{items_before, with_final_items}
-use Rattle.csl_round_laws.specs.Rounds.{request_at}
-use Rattle.csl_round_laws.specs.Tables.{disambiguated, last_states}
-use Rattle.csl_round_laws.specs.declared.mode.RoundMode.{RoundMode}
+use Rattle.driver_entries.specs.Entries.{number}
+use Rattle.rounds_grouping.specs.Blocks.{final_order, group_delimiter, grouped, grouped_cites, is_grouped}
+use Rattle.rounds_grouping.specs.Laws.{bare}
+use Rattle.rounds_grouping.proofs.OrderLaws.{ordered}
+use Rattle.rounds_grouping.proofs.Whole.{final-permuted}
+use Rattle.driver_passes.specs.Purposes.{has_no_purpose}
+use Rattle.driver_passes.specs.Renders.{CiteRender, ItemRender}
+use Rattle.driver_passes.specs.Request.{cites_of, entries_of}
+use Rattle.driver_positions.specs.FinalProperties.{items_before, with_final_items}
+use Rattle.rounds_runs.specs.Rounds.{request_at}
+use Rattle.rounds_runs.specs.Tables.{disambiguated, last_states}
+use Rattle.rounds_runs.specs.declared.mode.RoundMode.{RoundMode}
 
 module _ {X : Type 0} where
   pub sum-same : (v w : X → ℕ) → ((x : X) → v x ≡ w x) → (xs : List X) → sum_by v xs ≡ sum_by w xs

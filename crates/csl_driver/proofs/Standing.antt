@@ -4,30 +4,30 @@ use Rattle.std.specs.Prelude.{All, flat_map, if◌then◌else◌}
 use Rattle.std.specs.Cmp.{IsEquivalence}
 use Rattle.std.specs.List.{AllZip, enumerate_from}
 use Rattle.std.proofs.lemmas.List.Elements.{All-cons, All-head, All-nil, All-tail}
-use Rattle.csl_writers.specs.Writing.{Writing}
-use Rattle.csl_collapse.specs.Collapsed.{collapsed, collapsed_finally}
+use Rattle.driver_writers.specs.Writing.{Writing}
+use Rattle.rounds_grouping.specs.Collapsed.{collapsed, collapsed_finally}
 use Rattle.csl_driver.specs.Answer.{Job, entries_listed, rendered_first}
 use Rattle.csl_driver.specs.AreCitesOf.{AreCitesOf}
 use Rattle.csl_driver.proofs.FirstPlaced.{first-cited, first-placed, first-places, first-requests}
 use Rattle.csl_driver.proofs.Listings.{table-within}
-use Rattle.csl_style_values.specs.Ring.{HasNoRing}
-use Rattle.csl_entries.specs.Entries.{distinct, is_in, number}
-use Rattle.csl_entries.specs.PlacedItems.{IsPlaced}
-use Rattle.csl_entries.specs.Table.{Table, table_of}
-use Rattle.csl_entries.proofs.Distinct.{is_in-distinct}
-use Rattle.csl_grouping.specs.Blocks.{group_delimiter, grouped, grouped_cites, is_grouped}
-use Rattle.csl_grouping.proofs.Kept.{cited-same, grouped-placed}
-use Rattle.csl_lookup.specs.declared.state.DisambiguateState.{DisambiguateState}
-use Rattle.csl_passes.specs.Purposes.{has_no_purpose}
-use Rattle.csl_passes.specs.Renders.{CiteRender, ItemRender}
-use Rattle.csl_passes.specs.Request.{Request, cited}
-use Rattle.csl_positions.specs.FinalProperties.{items_before, with_final, with_final_items, with_final_properties}
-use Rattle.csl_positions.specs.FirstProperties.{first_properties}
-use Rattle.csl_round_laws.specs.FirstRenders.{first_renders}
-use Rattle.csl_round_laws.specs.Rounds.{StateTable, at_table, request_at, with_any}
-use Rattle.csl_round_laws.specs.Tables.{disambiguated, last_states}
-use Rattle.csl_rounds.specs.CitesOfTable.{AreCitesOfTable}
-use Rattle.csl_round_laws.specs.declared.mode.RoundMode.{RoundMode}
+use Rattle.value_styles.specs.Ring.{HasNoRing}
+use Rattle.driver_entries.specs.Entries.{distinct, is_in, number}
+use Rattle.driver_entries.specs.PlacedItems.{IsPlaced}
+use Rattle.driver_entries.specs.Table.{Table, table_of}
+use Rattle.driver_entries.proofs.Distinct.{is_in-distinct}
+use Rattle.rounds_grouping.specs.Blocks.{group_delimiter, grouped, grouped_cites, is_grouped}
+use Rattle.rounds_grouping.proofs.Kept.{cited-same, grouped-placed}
+use Rattle.driver_lookup.specs.declared.state.DisambiguateState.{DisambiguateState}
+use Rattle.driver_passes.specs.Purposes.{has_no_purpose}
+use Rattle.driver_passes.specs.Renders.{CiteRender, ItemRender}
+use Rattle.driver_passes.specs.Request.{Request, cited}
+use Rattle.driver_positions.specs.FinalProperties.{items_before, with_final, with_final_items, with_final_properties}
+use Rattle.driver_positions.specs.FirstProperties.{first_properties}
+use Rattle.rounds_runs.specs.FirstRenders.{first_renders}
+use Rattle.rounds_runs.specs.Rounds.{StateTable, at_table, request_at, with_any}
+use Rattle.rounds_runs.specs.Tables.{disambiguated, last_states}
+use Rattle.rounds_rendering.specs.CitesOfTable.{AreCitesOfTable}
+use Rattle.rounds_runs.specs.declared.mode.RoundMode.{RoundMode}
 
 module _ {X : Type 0} (h : ℕ → X → X) where
   -- members changed by their places

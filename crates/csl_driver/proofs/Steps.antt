@@ -1,14 +1,14 @@
 -- The steps of an answer, as a writer is asked for them.
 use Rattle.std.proofs.Common.{◌≡◌, ℕ, Bool, List, ◌++◌, Option, subst, ◌∙◌}
-use Rattle.csl_values.specs.Answers.{Answers}
-use Rattle.csl_lookup.specs.declared.state.DisambiguateState.{DisambiguateState}
-use Rattle.csl_passes.specs.Renders.{CiteRender}
-use Rattle.csl_round_laws.specs.declared.mode.RoundMode.{RoundMode}
-use Rattle.csl_rounds.specs.AfterRounds.{AreAfterRounds}
-use Rattle.csl_writers.specs.Desk.{Desk, after}
-use Rattle.csl_writers.specs.Tasks.{TaskValue}
-use Rattle.csl_writers.specs.Writing.{writing_of}
-use Rattle.csl_writers.proofs.TasksDone.{after-then, writes-same}
+use Rattle.value_sources.specs.Answers.{Answers}
+use Rattle.driver_lookup.specs.declared.state.DisambiguateState.{DisambiguateState}
+use Rattle.driver_passes.specs.Renders.{CiteRender}
+use Rattle.rounds_runs.specs.declared.mode.RoundMode.{RoundMode}
+use Rattle.rounds_rendering.specs.AfterRounds.{AreAfterRounds}
+use Rattle.driver_writers.specs.Desk.{Desk, after}
+use Rattle.driver_writers.specs.Tasks.{TaskValue}
+use Rattle.driver_writers.specs.Writing.{writing_of}
+use Rattle.driver_writers.proofs.TasksDone.{after-then, writes-same}
 
 module _ {E P N : Type 0} (answers : E → Answers) where
   -- what holds after the rounds, by what the writer wrote from the start

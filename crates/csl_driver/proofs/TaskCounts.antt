@@ -7,8 +7,8 @@ use Rattle.std.proofs.Math.ListN.{length-map}
 use Rattle.std.proofs.lemmas.List.Concat.{length-flat_map}
 use Rattle.std.proofs.lemmas.List.Elements.{filter-append}
 use Rattle.std.proofs.lemmas.List.Sums.{sum_by-cons}
-use Rattle.csl_assembly.specs.CitationTree.{citation_tasks}
-use Rattle.csl_collapse.specs.Collapsed.{collapsed_finally}
+use Rattle.driver_assembly.specs.CitationTree.{citation_tasks}
+use Rattle.rounds_grouping.specs.Collapsed.{collapsed_finally}
 use Rattle.csl_driver.specs.Account.{cost, listed_count, rerendered, where_listed}
 use Rattle.csl_driver.specs.Answer.{Job, entries_listed, listed_first_cites, in_final_order, in_the_end, used_order, rendered_first}
 use Rattle.csl_driver.specs.WriterTasks.{begun_tasks, last_tasks, listed_tasks, tasks, where_wanted}
@@ -16,21 +16,21 @@ use Rattle.csl_driver.proofs.FirstPlaced.{first-cited}
 use Rattle.csl_driver.proofs.ListedCount.{firsts-counted}
 use Rattle.csl_driver.proofs.Sizes.{first-size, last-size, size, sum-same}
 use Rattle.csl_driver.proofs.Standing.{final-stand, ordered-stand}
-use Rattle.csl_entries.specs.Entries.{number}
-use Rattle.csl_entries.specs.Table.{table_of}
-use Rattle.csl_lookup.specs.declared.state.DisambiguateState.{DisambiguateState}
-use Rattle.csl_passes.specs.Renders.{CiteRender, ItemRender}
-use Rattle.csl_passes.specs.Request.{Request, cites_of}
-use Rattle.csl_passes.specs.declared.first.FirstProperties.{FirstProperties}
-use Rattle.csl_positions.specs.FirstProperties.{first_properties}
-use Rattle.csl_round_laws.proofs.Twice.{same-entries}
-use Rattle.csl_round_laws.specs.FirstRenders.{first_renders_of, first_tasks_of}
-use Rattle.csl_round_laws.specs.Rerenders.{marked_among, rerenders}
-use Rattle.csl_round_laws.specs.Rounds.{StateTable, again_tasks, again_tasks_of, at_table, entries_cited, tasks_with}
-use Rattle.csl_round_laws.specs.Tables.{marked_at, round_tables, round_tasks, rounds, tables}
-use Rattle.csl_round_laws.specs.declared.mode.RoundMode.{RoundMode}
-use Rattle.csl_writers.specs.Tasks.{TaskValue}
-use Rattle.csl_writers.specs.Writing.{Writing}
+use Rattle.driver_entries.specs.Entries.{number}
+use Rattle.driver_entries.specs.Table.{table_of}
+use Rattle.driver_lookup.specs.declared.state.DisambiguateState.{DisambiguateState}
+use Rattle.driver_passes.specs.Renders.{CiteRender, ItemRender}
+use Rattle.driver_passes.specs.Request.{Request, cites_of}
+use Rattle.driver_passes.specs.declared.first.FirstProperties.{FirstProperties}
+use Rattle.driver_positions.specs.FirstProperties.{first_properties}
+use Rattle.rounds_runs.proofs.Twice.{same-entries}
+use Rattle.rounds_runs.specs.FirstRenders.{first_renders_of, first_tasks_of}
+use Rattle.rounds_runs.specs.Rerenders.{marked_among, rerenders}
+use Rattle.rounds_runs.specs.Rounds.{StateTable, again_tasks, again_tasks_of, at_table, entries_cited, tasks_with}
+use Rattle.rounds_runs.specs.Tables.{marked_at, round_tables, round_tasks, rounds, tables}
+use Rattle.rounds_runs.specs.declared.mode.RoundMode.{RoundMode}
+use Rattle.driver_writers.specs.Tasks.{TaskValue}
+use Rattle.driver_writers.specs.Writing.{Writing}
 
 sum-map : {X Y : Type 0} (v : Y → ℕ) (f : X → Y) (xs : List X) → sum_by v (map f xs) ≡ sum_by (λ x. v (f x)) xs
 sum-map v f [] = refl

@@ -2,17 +2,17 @@
 use Rattle.std.proofs.Common.{◌≡◌, Bool, List, Option, map, ap, ◌∙◌}
 use Rattle.std.specs.Prelude.{option_map}
 use Rattle.std.specs.List.{filter_map}
-use Rattle.csl_assembly.specs.BibliographyItems.{bibliography_of}
-use Rattle.csl_assembly.specs.declared.rendered.Rendered.{Rendered}
-use Rattle.csl_assembly.specs.declared.rendered.RenderedBibliography.{RenderedBibliography}
-use Rattle.csl_assembly.specs.declared.rendered.RenderedCitation.{RenderedCitation}
-use Rattle.csl_collapse.specs.Collapsed.{collapsed_finally}
-use Rattle.csl_writers.specs.Writing.{Writing}
+use Rattle.driver_assembly.specs.BibliographyItems.{bibliography_of}
+use Rattle.driver_assembly.specs.declared.rendered.Rendered.{Rendered}
+use Rattle.driver_assembly.specs.declared.rendered.RenderedBibliography.{RenderedBibliography}
+use Rattle.driver_assembly.specs.declared.rendered.RenderedCitation.{RenderedCitation}
+use Rattle.rounds_grouping.specs.Collapsed.{collapsed_finally}
+use Rattle.driver_writers.specs.Writing.{Writing}
 use Rattle.csl_driver.specs.Answer.{Job, citations_of, entries_listed, in_the_end, rendered}
-use Rattle.csl_passes.specs.Renders.{CiteRender}
-use Rattle.csl_passes.specs.Request.{wanted_source}
-use Rattle.csl_positions.specs.FinalProperties.{first_item}
-use Rattle.csl_round_laws.specs.declared.mode.RoundMode.{RoundMode}
+use Rattle.driver_passes.specs.Renders.{CiteRender}
+use Rattle.driver_passes.specs.Request.{wanted_source}
+use Rattle.driver_positions.specs.FinalProperties.{first_item}
+use Rattle.rounds_runs.specs.declared.mode.RoundMode.{RoundMode}
 
 module _ {E P : Type 0} (eq : E → E → Bool) (payload_eq : P → P → Bool) (writing : Writing E P) (mode : RoundMode) (job : Job E P)
     (settled drawn : List (CiteRender E P)) (in_end : settled ≡ in_the_end eq payload_eq writing mode job) (together : drawn ≡ map collapsed_finally settled) where

@@ -1,13 +1,13 @@
 -- The account of an answer: what it cost, and how it numbers its entries and tells them apart.
 use Rattle.std.specs.Prelude.{ℕ, ◌+◌, ◌*◌, Bool, List, Option, None, Some, length}
-use Rattle.csl_writers.specs.Writing.{Writing}
+use Rattle.driver_writers.specs.Writing.{Writing}
 use Rattle.csl_driver.specs.Answer.{Job, entries_listed, rendered_first}
-use Rattle.csl_lookup.specs.declared.state.DisambiguateState.{DisambiguateState}
-use Rattle.csl_passes.specs.Request.{Request, Wanted, cited, cites_of}
-use Rattle.csl_round_laws.specs.Rerenders.{rerenders}
-use Rattle.csl_round_laws.specs.Rounds.{told_by}
-use Rattle.csl_round_laws.specs.Tables.{last_states, round_tables, rounds}
-use Rattle.csl_round_laws.specs.declared.mode.RoundMode.{RoundMode}
+use Rattle.driver_lookup.specs.declared.state.DisambiguateState.{DisambiguateState}
+use Rattle.driver_passes.specs.Request.{Request, Wanted, cited, cites_of}
+use Rattle.rounds_runs.specs.Rerenders.{rerenders}
+use Rattle.rounds_runs.specs.Rounds.{told_by}
+use Rattle.rounds_runs.specs.Tables.{last_states, round_tables, rounds}
+use Rattle.rounds_runs.specs.declared.mode.RoundMode.{RoundMode}
 
 -- so many where there is a bibliography
 abbrev pub where_listed : {B : Type 0} → Option B → ℕ → ℕ

@@ -1,21 +1,21 @@
 -- The whole answer, from the whole list of requests.
 use Rattle.std.specs.Prelude.{ℕ, Bool, List, map, Option, None, Some, if◌then◌else◌, is_some, option_map}
 use Rattle.std.specs.List.{enumerate_from, filter_map}
-use Rattle.csl_assembly.specs.BibliographyItems.{bibliography_of}
-use Rattle.csl_assembly.specs.CitationTree.{citation_tree}
-use Rattle.csl_assembly.specs.declared.rendered.Rendered.{Rendered}
-use Rattle.csl_assembly.specs.declared.rendered.RenderedCitation.{RenderedCitation}
-use Rattle.csl_collapse.specs.Collapsed.{collapsed_finally}
-use Rattle.csl_entries.specs.Entries.{bibliography_order, distinct, number}
-use Rattle.csl_grouping.specs.Blocks.{grouped}
-use Rattle.csl_passes.specs.Renders.{CiteRender, ItemRender}
-use Rattle.csl_passes.specs.Request.{Request, Wanted, cited, wanted_source}
-use Rattle.csl_positions.specs.FinalProperties.{cited_finally, first_item, with_final_properties}
-use Rattle.csl_positions.specs.FirstProperties.{first_properties}
-use Rattle.csl_round_laws.specs.FirstRenders.{first_renders}
-use Rattle.csl_round_laws.specs.Tables.{disambiguated}
-use Rattle.csl_round_laws.specs.declared.mode.RoundMode.{RoundMode}
-use Rattle.csl_writers.specs.Writing.{Writing}
+use Rattle.driver_assembly.specs.BibliographyItems.{bibliography_of}
+use Rattle.driver_assembly.specs.CitationTree.{citation_tree}
+use Rattle.driver_assembly.specs.declared.rendered.Rendered.{Rendered}
+use Rattle.driver_assembly.specs.declared.rendered.RenderedCitation.{RenderedCitation}
+use Rattle.rounds_grouping.specs.Collapsed.{collapsed_finally}
+use Rattle.driver_entries.specs.Entries.{bibliography_order, distinct, number}
+use Rattle.rounds_grouping.specs.Blocks.{grouped}
+use Rattle.driver_passes.specs.Renders.{CiteRender, ItemRender}
+use Rattle.driver_passes.specs.Request.{Request, Wanted, cited, wanted_source}
+use Rattle.driver_positions.specs.FinalProperties.{cited_finally, first_item, with_final_properties}
+use Rattle.driver_positions.specs.FirstProperties.{first_properties}
+use Rattle.rounds_runs.specs.FirstRenders.{first_renders}
+use Rattle.rounds_runs.specs.Tables.{disambiguated}
+use Rattle.rounds_runs.specs.declared.mode.RoundMode.{RoundMode}
+use Rattle.driver_writers.specs.Writing.{Writing}
 
 -- what a driver is asked: what is wanted of the bibliography, the requests, and the offset, which
 -- is the number of the first entry

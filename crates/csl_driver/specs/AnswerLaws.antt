@@ -2,29 +2,29 @@
 use Rattle.std.specs.Prelude.{◌≡◌, ℕ, ◌-◌, ◌^◌, All, Bool, true, false, List, None, Some, length, map, min, slice_get, slice_index}
 use Rattle.std.specs.List.{AllZip, range_with_len}
 use Rattle.std.specs.List.Sorted.{IsPermutation}
-use Rattle.csl_assembly.specs.CitationTree.{shown}
-use Rattle.csl_assembly.specs.declared.rendered.Rendered.{Rendered}
-use Rattle.csl_assembly.specs.declared.rendered.RenderedCitation.{RenderedCitation}
-use Rattle.csl_style_values.specs.declared.style.Collapse.TheVariants.{CitationNumber}
-use Rattle.csl_writers.specs.Writing.{Writing}
-use Rattle.csl_collapse.specs.NumberLaws.{CanBeReadBack, is_hidden}
+use Rattle.driver_assembly.specs.CitationTree.{shown}
+use Rattle.driver_assembly.specs.declared.rendered.Rendered.{Rendered}
+use Rattle.driver_assembly.specs.declared.rendered.RenderedCitation.{RenderedCitation}
+use Rattle.value_styles.specs.declared.style.Collapse.TheVariants.{CitationNumber}
+use Rattle.driver_writers.specs.Writing.{Writing}
+use Rattle.rounds_grouping.specs.NumberLaws.{CanBeReadBack, is_hidden}
 use Rattle.csl_driver.specs.Answer.{Job, citations_of, used_order, rendered_first}
 use Rattle.csl_driver.specs.ListedOnce.{ListsEachOnce}
 use Rattle.csl_driver.specs.ShownEntries.{entries_shown}
 use Rattle.csl_driver.specs.declared.account.Account.{Account}
-use Rattle.csl_entries.specs.Entries.{bibliography_order, distinct, place}
-use Rattle.csl_entries.specs.Laws.{NoTwoEqual}
-use Rattle.csl_grouping.specs.Blocks.{is_grouped}
-use Rattle.csl_grouping.specs.FinalOrder.{HasFinalOrder}
-use Rattle.csl_lookup.specs.declared.state.IbidState.{IbidState}
-use Rattle.csl_passes.specs.Purposes.{has_no_purpose}
-use Rattle.csl_passes.specs.Renders.{CiteRender, ItemRender}
-use Rattle.csl_passes.specs.Request.{RequestedCite, cited, with_places}
-use Rattle.csl_positions.specs.FinalProperties.{as_cite, cited_finally, items_finally, placed_finally, with_final_properties}
-use Rattle.csl_round_laws.specs.Rounds.{StateTable, no_states, told_by}
-use Rattle.csl_round_laws.specs.RunLaws.{IsLawful, last_shown}
-use Rattle.csl_round_laws.specs.Tables.{last_table}
-use Rattle.csl_round_laws.specs.declared.mode.RoundMode.{RoundMode}
+use Rattle.driver_entries.specs.Entries.{bibliography_order, distinct, place}
+use Rattle.driver_entries.specs.Laws.{NoTwoEqual}
+use Rattle.rounds_grouping.specs.Blocks.{is_grouped}
+use Rattle.rounds_grouping.specs.FinalOrder.{HasFinalOrder}
+use Rattle.driver_lookup.specs.declared.state.IbidState.{IbidState}
+use Rattle.driver_passes.specs.Purposes.{has_no_purpose}
+use Rattle.driver_passes.specs.Renders.{CiteRender, ItemRender}
+use Rattle.driver_passes.specs.Request.{RequestedCite, cited, with_places}
+use Rattle.driver_positions.specs.FinalProperties.{as_cite, cited_finally, items_finally, placed_finally, with_final_properties}
+use Rattle.rounds_runs.specs.Rounds.{StateTable, no_states, told_by}
+use Rattle.rounds_runs.specs.RunLaws.{IsLawful, last_shown}
+use Rattle.rounds_runs.specs.Tables.{last_table}
+use Rattle.rounds_runs.specs.declared.mode.RoundMode.{RoundMode}
 
 -- entries of which no two are equal have the offset and the numbers that follow, each once
 pub record HaveNumbersOnce {E : Type 0} (eq : E → E → Bool) (offset : ℕ)

@@ -1,12 +1,12 @@
 -- For the code: cites that were rendered, and the requests and the table of entries that they
 -- belong to.
 use Rattle.std.specs.Prelude.{◌≡◌, Bool, List, map}
-use Rattle.csl_entries.specs.Entries.{is_in}
-use Rattle.csl_entries.specs.PlacedItems.{ArePlaced}
-use Rattle.csl_entries.specs.Table.{Table}
-use Rattle.csl_passes.specs.Renders.{CiteRender}
-use Rattle.csl_passes.specs.Request.{Request}
-use Rattle.csl_positions.specs.FinalProperties.{cited_finally}
+use Rattle.driver_entries.specs.Entries.{is_in}
+use Rattle.driver_entries.specs.PlacedItems.{ArePlaced}
+use Rattle.driver_entries.specs.Table.{Table}
+use Rattle.driver_passes.specs.Renders.{CiteRender}
+use Rattle.driver_passes.specs.Request.{Request}
+use Rattle.driver_positions.specs.FinalProperties.{cited_finally}
 
 pub record AreCitesOf {E P : Type 0} (eq : E → E
     → Bool) (table : Table E) (requests : List (Request E P))

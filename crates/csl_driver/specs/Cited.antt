@@ -2,12 +2,12 @@
 use Rattle.std.specs.Prelude.{◌≡◌, ℕ, ◌+◌, ◌<◌, ◌^◌, Bool, List, [], ◌∷◌, ◌++◌, length, map, Option, slice_get, unwrap_or}
 use Rattle.std.specs.List.{range_with_len}
 use Rattle.csl_driver.specs.declared.cited.Cited.{Cited}
-use Rattle.csl_entries.specs.Entries.{bibliography_order, distinct}
-use Rattle.csl_entries.specs.Listed.{IsListingOf, Listed}
-use Rattle.csl_entries.specs.ListingView.{listing_view}
-use Rattle.csl_entries.specs.Table.{table_of}
-use Rattle.csl_entries.specs.TableView.{table_view}
-use Rattle.csl_passes.specs.Request.{Request, cited}
+use Rattle.driver_entries.specs.Entries.{bibliography_order, distinct}
+use Rattle.driver_entries.specs.Listed.{IsListingOf, Listed}
+use Rattle.driver_entries.specs.ListingView.{listing_view}
+use Rattle.driver_entries.specs.Table.{table_of}
+use Rattle.driver_entries.specs.TableView.{table_view}
+use Rattle.driver_passes.specs.Request.{Request, cited}
 
 -- the number that follows the offset by where the entry at a place stands in a listing; behind all
 -- where it isn't listed

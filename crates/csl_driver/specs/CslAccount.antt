@@ -1,12 +1,12 @@
 -- The account of an answer in which works are told apart as CSL 1.0.2 has it.
 use Rattle.std.specs.Prelude.{ℕ, ◌+◌, Bool, true, false, not, List, [], ◌∷◌, find, length, if◌then◌else◌}
 use Rattle.std.specs.List.{filter_map}
-use Rattle.csl_entries.specs.Entries.{distinct}
-use Rattle.csl_mentions.specs.declared.state.MentionState.{MentionState}
-use Rattle.csl_passes.specs.Request.{cited, cites_of}
-use Rattle.csl_tables.specs.Tables.{all_tasks}
-use Rattle.csl_told_laws.specs.TellingLaws.{rounds_of}
-use Rattle.csl_writers.specs.Writing.{Writing}
+use Rattle.driver_entries.specs.Entries.{distinct}
+use Rattle.mentions_groups.specs.declared.state.MentionState.{MentionState}
+use Rattle.driver_passes.specs.Request.{cited, cites_of}
+use Rattle.mentions_tables.specs.Tables.{all_tasks}
+use Rattle.mentions_table_laws.specs.TellingLaws.{rounds_of}
+use Rattle.driver_writers.specs.Writing.{Writing}
 use Rattle.csl_driver.specs.Account.{listed_count}
 use Rattle.csl_driver.specs.Answer.{Job}
 use Rattle.csl_driver.specs.CslAnswer.{entry_suffixes, listed, mentions, read, states}

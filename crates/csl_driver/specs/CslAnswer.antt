@@ -1,44 +1,44 @@
 -- The whole answer where works are told apart as CSL 1.0.2 has it, from the whole list of requests.
 use Rattle.std.specs.Prelude.{ℕ, Bool, false, List, [], Option, Some, map, option_map, slice_get, unwrap_or}
 use Rattle.std.specs.List.{enumerate_from, filter_map}
-use Rattle.csl_arranging.specs.Arranged.{arranged_cites}
-use Rattle.csl_arranging.specs.Order.{final_request}
-use Rattle.csl_arranging.specs.Repeating.{cites_repeated, firsts_repeated}
-use Rattle.csl_arranging.specs.Requests.{Request as PlainRequest}
-use Rattle.csl_arranging.specs.declared.repeating.Repeated.{Repeated}
-use Rattle.csl_arranging.specs.declared.request.FinalCite.{FinalCite}
-use Rattle.csl_arranging.specs.declared.request.RequestedCite.{RequestedCite as PlainCite}
-use Rattle.csl_arranging.specs.declared.request.Shown.{Shown}
-use Rattle.csl_assembly.specs.ByMeans.{bibliography_by_means}
-use Rattle.csl_assembly.specs.WithoutEmpty.{citation_without_empty}
-use Rattle.csl_assembly.specs.declared.by_means.ItemMeans.{ItemMeans}
-use Rattle.csl_assembly.specs.declared.rendered.Rendered.{Rendered}
-use Rattle.csl_assembly.specs.declared.rendered.RenderedCitation.{RenderedCitation}
-use Rattle.csl_cited_mentions.specs.Cited.{keeping_of, reading_of}
-use Rattle.csl_cited_mentions.specs.declared.kept.KeptOfMention.{KeptOfMention}
-use Rattle.csl_entries.specs.Entries.{number}
-use Rattle.csl_lookup.specs.Properties.{LocatorValue}
-use Rattle.csl_mentions.specs.declared.state.MentionState.{MentionState}
-use Rattle.csl_mentions.specs.declared.written.Written.{Written}
-use Rattle.csl_notes.specs.declared.notes.CiteNotes.{CiteNotes}
-use Rattle.csl_passes.specs.Positions.{same_locators}
-use Rattle.csl_passes.specs.Renders.{CiteRender, ItemRender}
-use Rattle.csl_passes.specs.Request.{wanted_source}
-use Rattle.csl_positions.specs.FinalProperties.{first_item}
-use Rattle.csl_requested_mentions.specs.Handed.{notes_of_cites}
-use Rattle.csl_requested_mentions.specs.Mentions.{mentions_of}
-use Rattle.csl_tables.specs.Asked.{untold}
-use Rattle.csl_tables.specs.Steps.{all_changed}
-use Rattle.csl_tables.specs.Tables.{kept_again, kept_at_first, texts_told, third_table, year_suffixes}
-use Rattle.csl_tables.specs.declared.subject.Subject.{Subject}
-use Rattle.csl_told_cites.specs.Arranging.{arranged_finally}
-use Rattle.csl_told_cites.specs.Cites.{ToldValue, told_cites}
-use Rattle.csl_told_cites.specs.Mentions.{kept_last, mention_index, suffix_number, told_mentions}
-use Rattle.csl_told_cites.specs.Repeats.{cites_with_shown, repeat_tasks, shown_repeats, with_first_key}
-use Rattle.csl_told_cites.specs.Requests.{plain_requests}
-use Rattle.csl_told_cites.specs.declared.mentions.ToldMention.{ToldMention}
-use Rattle.csl_writers.specs.Tasks.{CiteTaskValue}
-use Rattle.csl_writers.specs.Writing.{Writing}
+use Rattle.mentions_arranging.specs.Arranged.{arranged_cites}
+use Rattle.mentions_arranging.specs.Order.{final_request}
+use Rattle.mentions_arranging.specs.Repeating.{cites_repeated, firsts_repeated}
+use Rattle.mentions_arranging.specs.Requests.{Request as PlainRequest}
+use Rattle.mentions_arranging.specs.declared.repeating.Repeated.{Repeated}
+use Rattle.mentions_arranging.specs.declared.request.FinalCite.{FinalCite}
+use Rattle.mentions_arranging.specs.declared.request.RequestedCite.{RequestedCite as PlainCite}
+use Rattle.mentions_arranging.specs.declared.request.Shown.{Shown}
+use Rattle.driver_assembly.specs.ByMeans.{bibliography_by_means}
+use Rattle.driver_assembly.specs.WithoutEmpty.{citation_without_empty}
+use Rattle.driver_assembly.specs.declared.by_means.ItemMeans.{ItemMeans}
+use Rattle.driver_assembly.specs.declared.rendered.Rendered.{Rendered}
+use Rattle.driver_assembly.specs.declared.rendered.RenderedCitation.{RenderedCitation}
+use Rattle.mentions_cited.specs.Cited.{keeping_of, reading_of}
+use Rattle.mentions_cited.specs.declared.kept.KeptOfMention.{KeptOfMention}
+use Rattle.driver_entries.specs.Entries.{number}
+use Rattle.driver_lookup.specs.Properties.{LocatorValue}
+use Rattle.mentions_groups.specs.declared.state.MentionState.{MentionState}
+use Rattle.mentions_groups.specs.declared.written.Written.{Written}
+use Rattle.mentions_notes.specs.declared.notes.CiteNotes.{CiteNotes}
+use Rattle.driver_passes.specs.Positions.{same_locators}
+use Rattle.driver_passes.specs.Renders.{CiteRender, ItemRender}
+use Rattle.driver_passes.specs.Request.{wanted_source}
+use Rattle.driver_positions.specs.FinalProperties.{first_item}
+use Rattle.mentions_cited.specs.Handed.{notes_of_cites}
+use Rattle.mentions_cited.specs.Mentions.{mentions_of}
+use Rattle.mentions_tables.specs.Asked.{untold}
+use Rattle.mentions_tables.specs.Steps.{all_changed}
+use Rattle.mentions_tables.specs.Tables.{kept_again, kept_at_first, texts_told, third_table, year_suffixes}
+use Rattle.mentions_tables.specs.declared.subject.Subject.{Subject}
+use Rattle.mentions_cites.specs.Arranging.{arranged_finally}
+use Rattle.mentions_cites.specs.Cites.{ToldValue, told_cites}
+use Rattle.mentions_cites.specs.Mentions.{kept_last, mention_index, suffix_number, told_mentions}
+use Rattle.mentions_cites.specs.Repeats.{cites_with_shown, repeat_tasks, shown_repeats, with_first_key}
+use Rattle.mentions_cites.specs.Requests.{plain_requests}
+use Rattle.mentions_cites.specs.declared.mentions.ToldMention.{ToldMention}
+use Rattle.driver_writers.specs.Tasks.{CiteTaskValue}
+use Rattle.driver_writers.specs.Writing.{Writing}
 use Rattle.csl_driver.specs.Answer.{Job, entries_listed, numbered_finally, used_order}
 
 -- the same locator: of one kind and with one payload

@@ -1,10 +1,10 @@
 -- What an account has, entry by entry.
 use Rattle.std.specs.Prelude.{ℕ, Bool, false, List, [], ◌∷◌, flat_map, if◌then◌else◌, map, slice_get, unwrap_or}
 use Rattle.std.specs.List.{zip}
-use Rattle.csl_assembly.specs.declared.by_means.ItemMeans.{ItemMeans}
-use Rattle.csl_mentions.specs.declared.state.MentionState.{MentionState}
-use Rattle.csl_tables.specs.Asked.{untold}
-use Rattle.csl_told_cites.specs.Mentions.{suffix_number}
+use Rattle.driver_assembly.specs.declared.by_means.ItemMeans.{ItemMeans}
+use Rattle.mentions_groups.specs.declared.state.MentionState.{MentionState}
+use Rattle.mentions_tables.specs.Asked.{untold}
+use Rattle.mentions_cites.specs.Mentions.{suffix_number}
 use Rattle.csl_driver.specs.declared.csl_account.CslAccount.{CslAccount}
 
 module _ {E : Type 0} (account : CslAccount E) where

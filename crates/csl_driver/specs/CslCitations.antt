@@ -2,26 +2,26 @@
 -- told apart as CSL 1.0.2 has it.
 use Rattle.std.specs.Prelude.{◌≡◌, ℕ, Bool, true, false, All, List, filter, length, map, option_map}
 use Rattle.std.specs.List.{AllZip, enumerate_from, range_with_len}
-use Rattle.csl_arranging.specs.Order.{grouped_cite, is_grouped}
-use Rattle.csl_arranging.specs.Requests.{Request as Arranged}
-use Rattle.csl_arranging.specs.declared.request.RequestedCite.{RequestedCite as PlainCite}
-use Rattle.csl_assembly.specs.ByMeans.{bibliography_by_means}
-use Rattle.csl_assembly.specs.CitationTree.{shown, shown_cite}
-use Rattle.csl_assembly.specs.WithoutEmpty.{has_something}
-use Rattle.csl_assembly.specs.declared.rendered.Rendered.{Rendered}
-use Rattle.csl_assembly.specs.declared.rendered.RenderedCitation.{RenderedCitation}
-use Rattle.csl_blocks.specs.Blocks.{block}
-use Rattle.csl_blocks.specs.declared.blocks.GroupedCite.{GroupedCite}
-use Rattle.csl_cited_mentions.specs.ToldMeans.{means_of}
-use Rattle.csl_collapse.specs.NumberLaws.{is_hidden}
-use Rattle.csl_entries.specs.Entries.{place}
-use Rattle.csl_grouping.specs.Laws.{StandsTogether}
-use Rattle.csl_lookup.specs.Properties.{LocatorValue}
-use Rattle.csl_passes.specs.Renders.{CiteRender, ItemRender}
-use Rattle.csl_passes.specs.Request.{source_of, wanted_source}
-use Rattle.csl_positions.specs.FinalProperties.{items_finally}
-use Rattle.csl_told_cites.specs.Mentions.{suffix_number}
-use Rattle.csl_writers.specs.Writing.{Writing}
+use Rattle.mentions_arranging.specs.Order.{grouped_cite, is_grouped}
+use Rattle.mentions_arranging.specs.Requests.{Request as Arranged}
+use Rattle.mentions_arranging.specs.declared.request.RequestedCite.{RequestedCite as PlainCite}
+use Rattle.driver_assembly.specs.ByMeans.{bibliography_by_means}
+use Rattle.driver_assembly.specs.CitationTree.{shown, shown_cite}
+use Rattle.driver_assembly.specs.WithoutEmpty.{has_something}
+use Rattle.driver_assembly.specs.declared.rendered.Rendered.{Rendered}
+use Rattle.driver_assembly.specs.declared.rendered.RenderedCitation.{RenderedCitation}
+use Rattle.mentions_blocks.specs.Blocks.{block}
+use Rattle.mentions_blocks.specs.declared.blocks.GroupedCite.{GroupedCite}
+use Rattle.mentions_cited.specs.ToldMeans.{means_of}
+use Rattle.rounds_grouping.specs.NumberLaws.{is_hidden}
+use Rattle.driver_entries.specs.Entries.{place}
+use Rattle.rounds_grouping.specs.Laws.{StandsTogether}
+use Rattle.driver_lookup.specs.Properties.{LocatorValue}
+use Rattle.driver_passes.specs.Renders.{CiteRender, ItemRender}
+use Rattle.driver_passes.specs.Request.{source_of, wanted_source}
+use Rattle.driver_positions.specs.FinalProperties.{items_finally}
+use Rattle.mentions_cites.specs.Mentions.{suffix_number}
+use Rattle.driver_writers.specs.Writing.{Writing}
 use Rattle.csl_driver.specs.Answer.{Job}
 use Rattle.csl_driver.specs.AnswerLaws.{HasOwnCites, number_in, places_of, uncollapsed, unsettled}
 use Rattle.csl_driver.specs.CslAnswer.{keyed, listed, listed_cites, told_citations}

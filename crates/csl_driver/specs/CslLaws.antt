@@ -2,21 +2,21 @@
 -- its account, without reading how these are made.
 use Rattle.std.specs.Prelude.{◌≡◌, ℕ, ◌+◌, ◌*◌, ◌-◌, ◌^◌, ◌≤◌, Bool, true, List, None, Some, filter, length, min}
 use Rattle.std.specs.List.{AllZip, range_with_len}
-use Rattle.csl_assembly.specs.declared.rendered.Rendered.{Rendered}
-use Rattle.csl_entries.specs.Entries.{distinct, is_in}
-use Rattle.csl_entries.specs.Laws.{NoTwoEqual}
-use Rattle.csl_mentions.specs.declared.mention.Mention.{Mention}
-use Rattle.csl_mentions.specs.declared.state.MentionState.{MentionState}
-use Rattle.csl_passes.specs.Renders.{CiteRender}
-use Rattle.csl_passes.specs.Request.{cited, cites_of}
-use Rattle.csl_positions.specs.FinalProperties.{cited_finally}
-use Rattle.csl_tables.specs.Tables.{mentions_in}
-use Rattle.csl_told_laws.specs.Ambiguous.{ConditionHolds, OnlyAmbiguous}
-use Rattle.csl_told_laws.specs.Growing.{StatesGrow}
-use Rattle.csl_told_laws.specs.Shown.{NamesTell}
-use Rattle.csl_told_laws.specs.SuffixLaws.{NoneInVain, NothingIsLeft, SuffixesCount}
-use Rattle.csl_told_laws.specs.TellingLaws.{has_names, rounds_of}
-use Rattle.csl_writers.specs.Writing.{Writing}
+use Rattle.driver_assembly.specs.declared.rendered.Rendered.{Rendered}
+use Rattle.driver_entries.specs.Entries.{distinct, is_in}
+use Rattle.driver_entries.specs.Laws.{NoTwoEqual}
+use Rattle.mentions_groups.specs.declared.mention.Mention.{Mention}
+use Rattle.mentions_groups.specs.declared.state.MentionState.{MentionState}
+use Rattle.driver_passes.specs.Renders.{CiteRender}
+use Rattle.driver_passes.specs.Request.{cited, cites_of}
+use Rattle.driver_positions.specs.FinalProperties.{cited_finally}
+use Rattle.mentions_tables.specs.Tables.{mentions_in}
+use Rattle.mentions_table_laws.specs.Ambiguous.{ConditionHolds, OnlyAmbiguous}
+use Rattle.mentions_table_laws.specs.Growing.{StatesGrow}
+use Rattle.mentions_table_laws.specs.Shown.{NamesTell}
+use Rattle.mentions_table_laws.specs.SuffixLaws.{NoneInVain, NothingIsLeft, SuffixesCount}
+use Rattle.mentions_table_laws.specs.TellingLaws.{has_names, rounds_of}
+use Rattle.driver_writers.specs.Writing.{Writing}
 use Rattle.csl_driver.specs.Account.{where_listed}
 use Rattle.csl_driver.specs.Answer.{Job, used_order}
 use Rattle.csl_driver.specs.AnswerLaws.{AreInOrder, HaveNumbersOnce}

@@ -1,18 +1,18 @@
 -- For the code: mentions that were told apart, and cites whose locators are lent by requests.
 use Rattle.std.specs.Prelude.{◌≡◌, Bool, List, map}
 use Rattle.std.specs.Borrow.{Bor}
-use Rattle.csl_arranging.specs.Requests.{Request as Arranged}
-use Rattle.csl_arranging.specs.declared.request.FinalCite.{FinalCite}
-use Rattle.csl_cited_mentions.specs.declared.kept.KeptOfMention.{KeptOfMention}
-use Rattle.csl_lookup.specs.Properties.{LocatorValue}
-use Rattle.csl_lookup.specs.declared.locator.SpecificLocator.{SpecificLocator}
-use Rattle.csl_tables.specs.declared.tables.Told.{Told}
-use Rattle.csl_shown.specs.declared.shown.ShownNames.{ShownNames}
-use Rattle.csl_told_cites.specs.Mentions.{first_with_names, kept_last, told_mentions}
-use Rattle.csl_told_cites.specs.NotedNames.{first_noted}
-use Rattle.csl_told_cites.specs.Requests.{located}
-use Rattle.csl_told_cites.specs.declared.repeats.MentionsTold.{MentionsTold}
-use Rattle.csl_writers.specs.Writing.{Writing}
+use Rattle.mentions_arranging.specs.Requests.{Request as Arranged}
+use Rattle.mentions_arranging.specs.declared.request.FinalCite.{FinalCite}
+use Rattle.mentions_cited.specs.declared.kept.KeptOfMention.{KeptOfMention}
+use Rattle.driver_lookup.specs.Properties.{LocatorValue}
+use Rattle.driver_lookup.specs.declared.locator.SpecificLocator.{SpecificLocator}
+use Rattle.mentions_tables.specs.declared.tables.Told.{Told}
+use Rattle.mentions_groups.specs.declared.shown.ShownNames.{ShownNames}
+use Rattle.mentions_cites.specs.Mentions.{first_with_names, kept_last, told_mentions}
+use Rattle.mentions_cites.specs.NotedNames.{first_noted}
+use Rattle.mentions_cites.specs.Requests.{located}
+use Rattle.mentions_cites.specs.declared.repeats.MentionsTold.{MentionsTold}
+use Rattle.driver_writers.specs.Writing.{Writing}
 use Rattle.csl_driver.specs.Answer.{Job}
 use Rattle.csl_driver.specs.CslAnswer.{entry_suffixes, last_kept, shown_mentions, states as told_states}
 

@@ -1,8 +1,8 @@
 -- What is promised of an answer in which works are told apart as CSL 1.0.2 has it, and of its
 -- account.
 use Rattle.std.specs.Prelude.{◌≡◌, ◌-◌, ◌^◌, Bool, map, min}
-use Rattle.csl_assembly.specs.declared.rendered.Rendered.{Rendered}
-use Rattle.csl_writers.specs.Writing.{Writing}
+use Rattle.driver_assembly.specs.declared.rendered.Rendered.{Rendered}
+use Rattle.driver_writers.specs.Writing.{Writing}
 use Rattle.csl_driver.specs.Answer.{Job}
 use Rattle.csl_driver.specs.CslAccount.{csl_cost, csl_rounds, entries_told, first_states, later_states}
 use Rattle.csl_driver.specs.CslAnswer.{entry_suffixes, numbers_in_the_end, rendered_csl}

@@ -1,15 +1,15 @@
 -- What a caller may rely on where arranging hides cites, without reading how ranges are found: what
 -- is hidden can be read back from what is shown.
 use Rattle.std.specs.Prelude.{◌≡◌, ℕ, ◌+◌, ◌<◌, ◌≤◌, ◌⊎◌, Bool, List, Option, Some, map, option_map, slice_range}
-use Rattle.csl_collapse.specs.NumberLaws.{AreCollapsed, AreNextShown, WasHid, override_at}
-use Rattle.csl_entries.specs.Entries.{place}
-use Rattle.csl_passes.specs.Renders.{CiteRender, ItemRender}
-use Rattle.csl_lookup.specs.Between.{between}
-use Rattle.csl_run_laws.specs.ReadBack.{IsBetweenShown, read_at}
-use Rattle.csl_style_values.specs.declared.style.Collapse.{Collapse}
-use Rattle.csl_told_cites.specs.Arranging.{en_dash}
-use Rattle.csl_told_cites.specs.Mentions.{entry_suffix}
-use Rattle.csl_writers.specs.Writing.{Writing}
+use Rattle.rounds_grouping.specs.NumberLaws.{AreCollapsed, AreNextShown, WasHid, override_at}
+use Rattle.driver_entries.specs.Entries.{place}
+use Rattle.driver_passes.specs.Renders.{CiteRender, ItemRender}
+use Rattle.driver_lookup.specs.Between.{between}
+use Rattle.mentions_ranges.specs.ReadBack.{IsBetweenShown, read_at}
+use Rattle.value_styles.specs.declared.style.Collapse.{Collapse}
+use Rattle.mentions_cites.specs.Arranging.{en_dash}
+use Rattle.mentions_cites.specs.Mentions.{entry_suffix}
+use Rattle.driver_writers.specs.Writing.{Writing}
 use Rattle.csl_driver.specs.Answer.{Job}
 use Rattle.csl_driver.specs.CslAnswer.{entry_suffixes, listed, shown_mentions}
 

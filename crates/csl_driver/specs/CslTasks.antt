@@ -1,13 +1,13 @@
 -- What a writer is asked for where works are told apart as CSL 1.0.2 has it.
 use Rattle.std.specs.Prelude.{Bool, List, ◌++◌, flat_map, map}
-use Rattle.csl_assembly.specs.ByMeans.{tasks_by_means}
-use Rattle.csl_cited_mentions.specs.Cited.{task_again}
-use Rattle.csl_mentions.specs.declared.state.MentionState.{MentionState}
-use Rattle.csl_passes.specs.Request.{wanted_source}
-use Rattle.csl_tables.specs.Tables.{all_tasks}
-use Rattle.csl_writers.specs.Tasks.{CiteTaskValue, TaskValue, cite_task}
-use Rattle.csl_writers.specs.Writing.{Writing}
-use Rattle.csl_writers.specs.declared.cite.Cite.{Cite}
+use Rattle.driver_assembly.specs.ByMeans.{tasks_by_means}
+use Rattle.mentions_cited.specs.Cited.{task_again}
+use Rattle.mentions_groups.specs.declared.state.MentionState.{MentionState}
+use Rattle.driver_passes.specs.Request.{wanted_source}
+use Rattle.mentions_tables.specs.Tables.{all_tasks}
+use Rattle.driver_writers.specs.Tasks.{CiteTaskValue, TaskValue, cite_task}
+use Rattle.driver_writers.specs.Writing.{Writing}
+use Rattle.driver_writers.specs.declared.cite.Cite.{Cite}
 use Rattle.csl_driver.specs.Answer.{Job}
 use Rattle.csl_driver.specs.CslAnswer.{cites_arranged, mentions, read, repeated_cites, repeated_firsts, tasks_repeated, told_first_cites}
 use Rattle.csl_driver.specs.WriterTasks.{last_tasks, where_wanted}

@@ -1,10 +1,10 @@
 -- For the code: what a draft answers, and where its entries stand.
-use Rattle.csl_values.specs.declared.entry.EntryLike as entry_like
+use Rattle.value_sources.specs.declared.entry.EntryLike as entry_like
 use Rattle.csl_driver.specs.Answer.{Job}
 use Rattle.csl_driver.specs.JobView.{job_view}
 use Rattle.csl_driver.specs.declared.draft.Draft.{Draft}
-use Rattle.csl_entries.specs.Table.{Table}
-use Rattle.csl_entries.specs.TableView.{table_view}
+use Rattle.driver_entries.specs.Table.{Table}
+use Rattle.driver_entries.specs.TableView.{table_view}
 use Rattle.std.specs.declared.cmp.Ord as order
 use Rattle.std.specs.declared.cmp.PartialEq as partial_eq
 use Rattle.std.specs.declared.cmp.PartialOrd as partial_order

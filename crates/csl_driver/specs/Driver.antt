@@ -1,6 +1,6 @@
 -- A driver as plain data.
 use Rattle.std.specs.Prelude.{ℕ, List, [], ◌∷◌, ◌++◌}
-use Rattle.csl_passes.specs.Request.{Request, with_places}
+use Rattle.driver_passes.specs.Request.{Request, with_places}
 
 -- the requests that a driver accepted, in order, and the number of the first entry
 pub record Driver (E P : Type 0) : Type 0 where

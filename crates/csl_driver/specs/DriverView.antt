@@ -1,6 +1,6 @@
 -- The plain data that a driver stands for.
 use Rattle.csl_driver.specs.Driver.{Driver}
-use Rattle.csl_passes.specs.RequestView.{requests_view}
+use Rattle.driver_passes.specs.RequestView.{requests_view}
 use Rattle.csl_driver.specs.declared.driver.BibliographyDriver.{BibliographyDriver}
 
 abbrev pub driver_view : {T P : Type 0} → BibliographyDriver T P → Driver T P

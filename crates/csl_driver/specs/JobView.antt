@@ -3,9 +3,9 @@ use Rattle.std.specs.Prelude.{ℕ, List}
 use Rattle.csl_driver.specs.Answer.{Job}
 use Rattle.csl_driver.specs.DriverView.{driver_view}
 use Rattle.csl_driver.specs.declared.driver.BibliographyDriver.{BibliographyDriver}
-use Rattle.csl_passes.specs.RequestView.{requests_view, wanted_view}
-use Rattle.csl_passes.specs.declared.request.BibliographyRequest.{BibliographyRequest}
-use Rattle.csl_passes.specs.declared.request.CitationRequest.{CitationRequest}
+use Rattle.driver_passes.specs.RequestView.{requests_view, wanted_view}
+use Rattle.driver_passes.specs.declared.request.BibliographyRequest.{BibliographyRequest}
+use Rattle.driver_passes.specs.declared.request.CitationRequest.{CitationRequest}
 
 module _ {T P : Type 0} where
   -- these requests, numbers from the offset on, and this bibliography

@@ -1,16 +1,16 @@
 -- What a caller may rely on of a bibliography: each cited entry is listed once, and no other.
 use Rattle.std.specs.Prelude.{◌≡◌, ℕ, Bool, true, IfSome, List, Option, Some, is_some, length, map, option_map}
 use Rattle.std.specs.List.Sorted.{IsPermutation}
-use Rattle.csl_assembly.specs.BibliographyItems.{bibliography_of}
-use Rattle.csl_assembly.specs.declared.rendered.RenderedBibliography.{RenderedBibliography}
-use Rattle.csl_values.specs.Answers.{Answers}
+use Rattle.driver_assembly.specs.BibliographyItems.{bibliography_of}
+use Rattle.driver_assembly.specs.declared.rendered.RenderedBibliography.{RenderedBibliography}
+use Rattle.value_sources.specs.Answers.{Answers}
 use Rattle.csl_driver.specs.Answer.{Job, entries_listed}
-use Rattle.csl_entries.specs.Entries.{is_in}
-use Rattle.csl_entries.specs.Laws.{NoTwoEqual}
-use Rattle.csl_passes.specs.Renders.{CiteRender, ItemRender}
-use Rattle.csl_passes.specs.Request.{wanted_source}
-use Rattle.csl_positions.specs.FinalProperties.{first_item}
-use Rattle.csl_writers.specs.Writing.{Writing}
+use Rattle.driver_entries.specs.Entries.{is_in}
+use Rattle.driver_entries.specs.Laws.{NoTwoEqual}
+use Rattle.driver_passes.specs.Renders.{CiteRender, ItemRender}
+use Rattle.driver_passes.specs.Request.{wanted_source}
+use Rattle.driver_positions.specs.FinalProperties.{first_item}
+use Rattle.driver_writers.specs.Writing.{Writing}
 
 -- the keys of the items
 abbrev pub keys_of : RenderedBibliography → List (List ℕ)

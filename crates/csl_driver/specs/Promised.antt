@@ -14,8 +14,8 @@ use Rattle.std.specs.Prelude.{
   map,
   min,
 }
-use Rattle.csl_assembly.specs.declared.rendered.Rendered.{Rendered}
-use Rattle.csl_writers.specs.Writing.{Writing}
+use Rattle.driver_assembly.specs.declared.rendered.Rendered.{Rendered}
+use Rattle.driver_writers.specs.Writing.{Writing}
 use Rattle.csl_driver.specs.Account.{cost, final_state, marking}
 use Rattle.csl_driver.specs.Answer.{Job, final_number, rendered}
 use Rattle.csl_driver.specs.AnswerLaws.{KeepsLaws}
@@ -24,9 +24,9 @@ use Rattle.csl_driver.specs.declared.account.Account.{Account}
 use Rattle.csl_driver.specs.declared.error.DriverError.{DriverError}
 use Rattle.csl_driver.specs.declared.error.FinishError.{FinishError}
 use Rattle.csl_driver.specs.declared.error.FinishError.TheVariants as errors
-use Rattle.csl_entries.specs.Entries.{distinct}
-use Rattle.csl_passes.specs.Request.{cited}
-use Rattle.csl_round_laws.specs.declared.mode.RoundMode.{RoundMode}
+use Rattle.driver_entries.specs.Entries.{distinct}
+use Rattle.driver_passes.specs.Request.{cited}
+use Rattle.rounds_runs.specs.declared.mode.RoundMode.{RoundMode}
 
 module _ {E P : Type 0} (eq : E → E → Bool) (payload_eq : P → P → Bool) (writing : Writing E P)
     (mode : RoundMode) (job : Job E P) (r : Rendered × Account E) where

@@ -1,10 +1,10 @@
 -- Why the driver refuses: a style whose macros call each other in a ring, or numbers that grow too
 -- large.
 use Rattle.std.specs.Prelude.{◌≡◌, ℕ, ◌+◌, ◌≤◌, ◌^◌, Bool, List, length, take, slice_get, Some, All}
-use Rattle.csl_style_values.specs.Ring.{HasNoRing, IsFirstRing}
-use Rattle.csl_style_values.specs.Style.{StyleValue}
-use Rattle.csl_entries.specs.Entries.{distinct}
-use Rattle.csl_passes.specs.Request.{Request, cited}
+use Rattle.value_styles.specs.Ring.{HasNoRing, IsFirstRing}
+use Rattle.value_styles.specs.Style.{StyleValue}
+use Rattle.driver_entries.specs.Entries.{distinct}
+use Rattle.driver_passes.specs.Request.{Request, cited}
 use Rattle.csl_driver.specs.declared.error.DriverError.{DriverError}
 use Rattle.csl_driver.specs.declared.error.DriverError.TheVariants as errors
 use Rattle.csl_driver.specs.declared.error.RingLocation.{RingLocation}

@@ -1,8 +1,8 @@
 -- Which cites a citation shows, read off its tree.
 use Rattle.std.specs.Prelude.{ℕ, List, Option, None, Some}
 use Rattle.std.specs.List.{filter_map}
-use Rattle.csl_trees.specs.Child.{Child, elem}
-use Rattle.csl_trees.specs.declared.elem.ElemMeta.TheVariants.{Entry}
+use Rattle.value_trees.specs.Child.{Child, elem}
+use Rattle.value_trees.specs.declared.elem.ElemMeta.TheVariants.{Entry}
 
 -- the place of the cite that an element is, where it is one
 abbrev pub entry_shown : Child → Option ℕ

@@ -1,17 +1,17 @@
 -- A citation that stands for itself.
 use Rattle.std.specs.Prelude.{ℕ, true, not, List, map, filter, Option, None, Some, unwrap_or, codes}
-use Rattle.csl_style_values.specs.Style.{LayoutValue}
-use Rattle.csl_trees.specs.Child.{Child}
-use Rattle.csl_trees.specs.Tree.{has_content}
-use Rattle.csl_lookup.specs.Lookup.{Source}
-use Rattle.csl_lookup.specs.NoProperties.{nothing_certain, speculated}
-use Rattle.csl_lookup.specs.Properties.{LocatorValue, Properties}
-use Rattle.csl_lookup.specs.declared.state.IbidState.{IbidState}
-use Rattle.csl_assembly.specs.Assembly.{Shown, assembled}
-use Rattle.csl_assembly.specs.LastTree.{tree_by_purpose}
-use Rattle.csl_passes.specs.Request.{RequestedCite, Request, source_of}
-use Rattle.csl_writers.specs.Tasks.{CiteTaskValue}
-use Rattle.csl_writers.specs.Writing.{Writing}
+use Rattle.value_styles.specs.Style.{LayoutValue}
+use Rattle.value_trees.specs.Child.{Child}
+use Rattle.value_trees.specs.Tree.{has_content}
+use Rattle.driver_lookup.specs.Lookup.{Source}
+use Rattle.driver_lookup.specs.NoProperties.{nothing_certain, speculated}
+use Rattle.driver_lookup.specs.Properties.{LocatorValue, Properties}
+use Rattle.driver_lookup.specs.declared.state.IbidState.{IbidState}
+use Rattle.driver_assembly.specs.Assembly.{Shown, assembled}
+use Rattle.driver_assembly.specs.LastTree.{tree_by_purpose}
+use Rattle.driver_passes.specs.Request.{RequestedCite, Request, source_of}
+use Rattle.driver_writers.specs.Tasks.{CiteTaskValue}
+use Rattle.driver_writers.specs.Writing.{Writing}
 
 -- what stands between cites: the layout's delimiter, or else a comma and a space
 abbrev pub lone_delimiter : LayoutValue → List ℕ

@@ -1,19 +1,19 @@
 -- What a writer is asked for where a driver answers.
 use Rattle.std.specs.Prelude.{Bool, List, [], ◌++◌, Option, None, Some, map}
 use Rattle.std.specs.List.{enumerate_from, flat_map}
-use Rattle.csl_assembly.specs.BibliographyItems.{bibliography_tasks}
-use Rattle.csl_assembly.specs.CitationTree.{citation_tasks}
-use Rattle.csl_collapse.specs.Collapsed.{collapsed_finally}
+use Rattle.driver_assembly.specs.BibliographyItems.{bibliography_tasks}
+use Rattle.driver_assembly.specs.CitationTree.{citation_tasks}
+use Rattle.rounds_grouping.specs.Collapsed.{collapsed_finally}
 use Rattle.csl_driver.specs.Answer.{Job, entries_listed, listed_first_cites, in_the_end, rendered_first}
-use Rattle.csl_entries.specs.Entries.{number}
-use Rattle.csl_passes.specs.Renders.{CiteRender}
-use Rattle.csl_passes.specs.Request.{wanted_source}
-use Rattle.csl_positions.specs.FirstProperties.{first_properties}
-use Rattle.csl_round_laws.specs.FirstRenders.{first_tasks}
-use Rattle.csl_round_laws.specs.Tables.{round_tasks}
-use Rattle.csl_round_laws.specs.declared.mode.RoundMode.{RoundMode}
-use Rattle.csl_writers.specs.Tasks.{TaskValue}
-use Rattle.csl_writers.specs.Writing.{Writing}
+use Rattle.driver_entries.specs.Entries.{number}
+use Rattle.driver_passes.specs.Renders.{CiteRender}
+use Rattle.driver_passes.specs.Request.{wanted_source}
+use Rattle.driver_positions.specs.FirstProperties.{first_properties}
+use Rattle.rounds_runs.specs.FirstRenders.{first_tasks}
+use Rattle.rounds_runs.specs.Tables.{round_tasks}
+use Rattle.rounds_runs.specs.declared.mode.RoundMode.{RoundMode}
+use Rattle.driver_writers.specs.Tasks.{TaskValue}
+use Rattle.driver_writers.specs.Writing.{Writing}
 
 -- these where there is a bibliography
 abbrev pub where_wanted : {B X : Type 0} → Option B → List X → List X

@@ -1,15 +1,15 @@
 //! What an answer cost, and how it numbers and disambiguates its entries.
 ghost use Rattle.std.specs.Prelude.{◌≡◌, ◌+◌, IfOk, length, map, take};
 ghost use Rattle.csl_driver.specs.DraftView.{table_in};
-ghost use Rattle.csl_entries.specs.TableView.{table_view};
-ghost use Rattle.csl_round_laws.specs.Rounds.{told_by};
+ghost use Rattle.driver_entries.specs.TableView.{table_view};
+ghost use Rattle.rounds_runs.specs.Rounds.{told_by};
 
 use crate::draft::Draft;
 use csl_base::entry::EntryLike;
-use csl_entries::table::EntryTable;
-use csl_lookup::state::DisambiguateState;
-use csl_rounds::rounds::Rounds;
-use csl_writers::counter::Renders;
+use driver_entries::table::EntryTable;
+use driver_lookup::state::DisambiguateState;
+use driver_writers::counter::Renders;
+use rounds_rendering::rounds::Rounds;
 use std::alloc::{AllocError, Global};
 
 /// The account of an answer.

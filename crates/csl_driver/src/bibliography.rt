@@ -1,7 +1,7 @@
 //! The bibliography of an answer.
 ghost use Rattle.std.specs.Prelude.{◌≡◌, IfOk, OnOk, option_map};
 ghost use Rattle.std.specs.List.{filter_map};
-ghost use Rattle.csl_assembly.specs.BibliographyItems.{
+ghost use Rattle.driver_assembly.specs.BibliographyItems.{
   bibliography_of,
   bibliography_tasks,
   cites_at,
@@ -10,20 +10,20 @@ ghost use Rattle.csl_driver.specs.Answer.{entries_listed};
 ghost use Rattle.csl_driver.specs.AreCitesOf.{AreCitesOf};
 ghost use Rattle.csl_driver.specs.DraftView.{job_in, table_in};
 ghost use Rattle.csl_driver.specs.WriterTasks.{where_wanted};
-ghost use Rattle.csl_passes.specs.RendersView.{renders_view};
-ghost use Rattle.csl_passes.specs.Request.{wanted_source};
-ghost use Rattle.csl_positions.specs.FinalProperties.{first_item};
-ghost use Rattle.csl_writers.specs.Desk.{after, desk};
-ghost use Rattle.csl_writers.specs.Writing.{writing_of};
+ghost use Rattle.driver_passes.specs.RendersView.{renders_view};
+ghost use Rattle.driver_passes.specs.Request.{wanted_source};
+ghost use Rattle.driver_positions.specs.FinalProperties.{first_item};
+ghost use Rattle.driver_writers.specs.Desk.{after, desk};
+ghost use Rattle.driver_writers.specs.Writing.{writing_of};
 
 use crate::draft::Draft;
-use csl_assembly::bibliography::bibliography_of;
-use csl_assembly::rendered::RenderedBibliography;
 use csl_base::entry::EntryLike;
-use csl_passes::renders::SpeculativeCiteRender;
-use csl_positions::final_order::first_items;
-use csl_writers::counter::Renders;
-use csl_writers::writer::CiteWriter;
+use driver_assembly::bibliography::bibliography_of;
+use driver_assembly::rendered::RenderedBibliography;
+use driver_passes::renders::SpeculativeCiteRender;
+use driver_positions::final_order::first_items;
+use driver_writers::counter::Renders;
+use driver_writers::writer::CiteWriter;
 use std::alloc::{AllocError, Global};
 
 impl<'d, 'o, 'a, T: EntryLike, P: Drop> Draft<'d, 'o, 'a, T, P> {

@@ -1,19 +1,19 @@
 //! The cited entries, their order and their numbers.
 ghost use Rattle.std.specs.Prelude.{◌≡◌, ◌+◌, ◌<◌, ◌^◌, IfErr, IfOk, length, ℕ};
-ghost use Rattle.csl_style_values.specs.StyleView.{style_view};
-ghost use Rattle.csl_entries.specs.ListingView.{listing_view};
-ghost use Rattle.csl_entries.specs.TableView.{table_view};
-ghost use Rattle.csl_passes.specs.RequestView.{order_view, requests_view, wanted_view};
+ghost use Rattle.value_styles.specs.StyleView.{style_view};
+ghost use Rattle.driver_entries.specs.ListingView.{listing_view};
+ghost use Rattle.driver_entries.specs.TableView.{table_view};
+ghost use Rattle.driver_passes.specs.RequestView.{order_view, requests_view, wanted_view};
 ghost use Rattle.csl_driver.specs.Answer.{used_order};
 ghost use Rattle.csl_driver.specs.Cited.{IsCitedBy, listed_number, numbers_at};
 ghost use Rattle.csl_driver.specs.Rings.{Refuses};
 
 use crate::error::DriverError;
 use csl_base::entry::EntryLike;
-use csl_entries::listing::Listing;
-use csl_entries::table::EntryTable;
-use csl_passes::acyclic::{AcyclicBibliographyRequest, AcyclicRequests};
-use csl_passes::request::{BibliographyRequest, Order};
+use driver_entries::listing::Listing;
+use driver_entries::table::EntryTable;
+use driver_passes::acyclic::{AcyclicBibliographyRequest, AcyclicRequests};
+use driver_passes::request::{BibliographyRequest, Order};
 use std::alloc::{AllocError, Global};
 
 /// The entries that are cited, in the order of their first cites and in that of the bibliography.

@@ -1,6 +1,6 @@
 //! The whole answer where works are disambiguated as CSL 1.0.2 has it.
 ghost use Rattle.std.specs.Prelude.{◌≡◌, IfOk, OnOk, map};
-ghost use Rattle.csl_arranging.specs.Requests.{requests_view as all_arranged_view};
+ghost use Rattle.mentions_arranging.specs.Requests.{requests_view as all_arranged_view};
 ghost use Rattle.csl_driver.specs.AreCitesOf.{AreCitesOf};
 ghost use Rattle.csl_driver.specs.CslAnswer.{cites_in_order, mentions, ordered, told_citations};
 ghost use Rattle.csl_driver.specs.CslParts.{AreToldApart, all_located};
@@ -8,32 +8,40 @@ ghost use Rattle.csl_driver.specs.CslPromised.{IsExactlyCsl};
 ghost use Rattle.csl_driver.specs.CslTasks.{csl_tasks, mention_tasks, order_tasks};
 ghost use Rattle.csl_driver.specs.DraftView.{job_in, table_in};
 ghost use Rattle.csl_driver.specs.WriterTasks.{last_tasks};
-ghost use Rattle.csl_passes.specs.RendersView.{renders_view};
-ghost use Rattle.csl_requested_mentions.specs.Plain.{plain};
-ghost use Rattle.csl_writers.specs.Desk.{after, desk};
-ghost use Rattle.csl_writers.specs.Writing.{asked_for, writing_of};
+ghost use Rattle.driver_passes.specs.RendersView.{renders_view};
+ghost use Rattle.mentions_cited.specs.Plain.{plain};
+ghost use Rattle.driver_writers.specs.Desk.{after, desk};
+ghost use Rattle.driver_writers.specs.Writing.{asked_for, writing_of};
 
 use crate::csl_account::CslAccount;
 use crate::csl_cites::OrderedRequest;
 use crate::draft::Draft;
-use csl_assembly::rendered::{Rendered, RenderedCitation};
-use csl_assembly::without_empty::citation_without_empty;
 use csl_base::entry::EntryLike;
 use csl_base::seq::Seq;
-use csl_cited_mentions::kept::KeptOfMention;
-use csl_cited_mentions::mention::CiteMention;
-use csl_passes::acyclic::AcyclicRequest;
-use csl_passes::renders::{Cites, SpeculativeCiteRender};
-use csl_requested_mentions::handed::{cited_again, notes_of_cites};
-use csl_requested_mentions::homes::homes;
-use csl_requested_mentions::mentions::mentions;
-use csl_requested_mentions::properties::properties_of_mentions;
-use csl_tables::subject::Subject;
-use csl_tables::tables::{Told, tell_apart};
-use csl_writers::counter::Renders;
-use csl_writers::pushed::push;
-use csl_writers::writer::CiteWriter;
+use driver_assembly::rendered::{Rendered, RenderedCitation};
+use driver_assembly::without_empty::citation_without_empty;
+use driver_passes::acyclic::AcyclicRequest;
+use driver_passes::renders::{Cites, SpeculativeCiteRender};
+use driver_writers::counter::Renders;
+use driver_writers::pushed::push;
+use driver_writers::writer::CiteWriter;
+use mentions_cited::handed::{cited_again, notes_of_cites};
+use mentions_cited::homes::homes;
+use mentions_cited::kept::KeptOfMention;
+use mentions_cited::mention::CiteMention;
+use mentions_cited::mentions::mentions;
+use mentions_cited::properties::properties_of_mentions;
+use mentions_tables::subject::Subject;
+use mentions_tables::tables::{Told, tell_apart};
 use std::alloc::Global;
+
+/// What disambiguates all mentions, the requests with their cites in the final order, and these
+/// cites.
+type ToldInOrder<'d, 'a, T, P> = (
+    Told<KeptOfMention>,
+    Vec<OrderedRequest<'d, 'a, P>>,
+    Cites<'d, 'a, T, P>,
+);
 
 impl<'d, 'o, 'a, T: EntryLike, P: Eq + Drop> Draft<'d, 'o, 'a, T, P> {
     /// The answer, and its account. The mentions of all entries are disambiguated; by these the
@@ -75,14 +83,7 @@ impl<'d, 'o, 'a, T: EntryLike, P: Eq + Drop> Draft<'d, 'o, 'a, T, P> {
         alloc: Global,
         writer: &mut W,
         counter: &mut Renders,
-    ) -> Result<
-        (
-            Told<KeptOfMention>,
-            Vec<OrderedRequest<'d, 'a, P>>,
-            Cites<'d, 'a, T, P>,
-        ),
-        W::Error,
-    >
+    ) -> Result<ToldInOrder<'d, 'a, T, P>, W::Error>
         ensures told { IfOk result (λ r. (way : W.Way) → W.agrees writer.new way
             → AreToldApart T.eq (job_in self.entry)
             (writing_of T.answers (W.state writer.old way)) r.0) }

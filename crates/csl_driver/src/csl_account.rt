@@ -3,14 +3,14 @@ ghost use Rattle.std.specs.Prelude.{◌≡◌, true, false, if◌then◌else◌,
 ghost use Rattle.std.specs.List.{list_any};
 ghost use Rattle.csl_driver.specs.CslAccount.{entries_told, every_second};
 ghost use Rattle.csl_driver.specs.DraftView.{job_in};
-ghost use Rattle.csl_told_laws.specs.TellingLaws.{has_names, rounds_of};
+ghost use Rattle.mentions_table_laws.specs.TellingLaws.{has_names, rounds_of};
 
 use crate::draft::Draft;
 use csl_base::entry::EntryLike;
-use csl_cited_mentions::kept::KeptOfMention;
-use csl_mentions::state::MentionState;
-use csl_tables::tables::Told;
-use csl_writers::counter::Renders;
+use driver_writers::counter::Renders;
+use mentions_cited::kept::KeptOfMention;
+use mentions_groups::state::MentionState;
+use mentions_tables::tables::Told;
 use std::alloc::{AllocError, Global};
 
 /// The account of an answer where works are disambiguated as CSL 1.0.2 has it. All lists are

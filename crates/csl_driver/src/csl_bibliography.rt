@@ -1,6 +1,6 @@
 //! The bibliography of an answer where works are disambiguated as CSL 1.0.2 has it.
 ghost use Rattle.std.specs.Prelude.{◌≡◌, IfOk, OnOk, length, option_map};
-ghost use Rattle.csl_assembly.specs.ByMeans.{
+ghost use Rattle.driver_assembly.specs.ByMeans.{
   bibliography_by_means,
   cites_with_means,
   tasks_by_means,
@@ -9,22 +9,22 @@ ghost use Rattle.csl_driver.specs.AreCitesOf.{AreCitesOf};
 ghost use Rattle.csl_driver.specs.CslAnswer.{item_means, listed, listed_cites};
 ghost use Rattle.csl_driver.specs.DraftView.{job_in, table_in};
 ghost use Rattle.csl_driver.specs.WriterTasks.{where_wanted};
-ghost use Rattle.csl_passes.specs.RendersView.{renders_view};
-ghost use Rattle.csl_passes.specs.Request.{wanted_source};
-ghost use Rattle.csl_writers.specs.Desk.{after, desk};
-ghost use Rattle.csl_writers.specs.Writing.{writing_of};
+ghost use Rattle.driver_passes.specs.RendersView.{renders_view};
+ghost use Rattle.driver_passes.specs.Request.{wanted_source};
+ghost use Rattle.driver_writers.specs.Desk.{after, desk};
+ghost use Rattle.driver_writers.specs.Writing.{writing_of};
 
 use crate::draft::Draft;
-use csl_assembly::by_means::{ItemMeans, bibliography_by_means};
-use csl_assembly::rendered::RenderedBibliography;
 use csl_base::entry::EntryLike;
-use csl_cited_mentions::kept::KeptOfMention;
-use csl_passes::renders::SpeculativeCiteRender;
-use csl_positions::final_order::first_items;
-use csl_tables::tables::Told;
-use csl_told_cites::mentions::{by_mention, suffix_number};
-use csl_writers::counter::Renders;
-use csl_writers::writer::CiteWriter;
+use driver_assembly::by_means::{ItemMeans, bibliography_by_means};
+use driver_assembly::rendered::RenderedBibliography;
+use driver_passes::renders::SpeculativeCiteRender;
+use driver_positions::final_order::first_items;
+use driver_writers::counter::Renders;
+use driver_writers::writer::CiteWriter;
+use mentions_cited::kept::KeptOfMention;
+use mentions_cites::mentions::{by_mention, suffix_number};
+use mentions_tables::tables::Told;
 use std::alloc::{AllocError, Global};
 
 /// The means of the item of the entry at an index: the choice of its later mention, and its suffix.

@@ -1,7 +1,7 @@
 //! The cites of all requests as they are arranged once mentions are disambiguated.
 ghost use Rattle.std.specs.Prelude.{◌≡◌, IfOk, OnOk, length, map};
-ghost use Rattle.csl_arranging.specs.Arranged.{arranged_cites};
-ghost use Rattle.csl_arranging.specs.Requests.{requests_view as all_arranged_view};
+ghost use Rattle.mentions_arranging.specs.Arranged.{arranged_cites};
+ghost use Rattle.mentions_arranging.specs.Requests.{requests_view as all_arranged_view};
 ghost use Rattle.csl_driver.specs.AreCitesOf.{AreCitesOf};
 ghost use Rattle.csl_driver.specs.CslAnswer.{
   cite_notes,
@@ -15,38 +15,38 @@ ghost use Rattle.csl_driver.specs.CslAnswer.{
 ghost use Rattle.csl_driver.specs.CslParts.{AreToldApart, IsKnownOf, all_located};
 ghost use Rattle.csl_driver.specs.CslTasks.{repeat_cite_tasks};
 ghost use Rattle.csl_driver.specs.DraftView.{job_in, table_in};
-ghost use Rattle.csl_passes.specs.RendersView.{renders_view};
-ghost use Rattle.csl_requested_mentions.specs.Handed.{cite_counts};
-ghost use Rattle.csl_requested_mentions.specs.Plain.{plain};
-ghost use Rattle.csl_told_cites.specs.Arranging.{arranged_finally};
-ghost use Rattle.csl_tables.specs.Steps.{all_changed};
-ghost use Rattle.csl_told_cites.specs.Repeats.{cites_with_shown, with_first_key};
-ghost use Rattle.csl_told_cites.specs.Requests.{located_request};
-ghost use Rattle.csl_writers.specs.Desk.{after, desk};
-ghost use Rattle.csl_writers.specs.Writing.{writing_of};
+ghost use Rattle.driver_passes.specs.RendersView.{renders_view};
+ghost use Rattle.mentions_cited.specs.Handed.{cite_counts};
+ghost use Rattle.mentions_cited.specs.Plain.{plain};
+ghost use Rattle.mentions_cites.specs.Arranging.{arranged_finally};
+ghost use Rattle.mentions_tables.specs.Steps.{all_changed};
+ghost use Rattle.mentions_cites.specs.Repeats.{cites_with_shown, with_first_key};
+ghost use Rattle.mentions_cites.specs.Requests.{located_request};
+ghost use Rattle.driver_writers.specs.Desk.{after, desk};
+ghost use Rattle.driver_writers.specs.Writing.{writing_of};
 
 use crate::draft::Draft;
-use csl_arranging::arranged::arranged_cites;
-use csl_arranging::order::final_requests;
-use csl_arranging::repeating::{cites_repeated, firsts_repeated};
-use csl_arranging::request::{CiteRequest, FinalCite, RequestedCite, Shown};
 use csl_base::entry::EntryLike;
-use csl_cited_mentions::kept::KeptOfMention;
-use csl_cited_mentions::mention::CiteMention;
-use csl_lookup::locator::SpecificLocator;
-use csl_notes::notes::CiteNotes;
-use csl_passes::renders::{Cites, SpeculativeCiteRender};
-use csl_tables::subject::Subject;
-use csl_tables::tables::Told;
-use csl_told_cites::arranging::arrange_finally;
-use csl_told_cites::cites::{ToldEntries, told_cites};
-use csl_told_cites::mentions::{ToldMention, noted_names, told_mentions};
-use csl_told_cites::repeats::{
+use driver_lookup::locator::SpecificLocator;
+use driver_passes::renders::{Cites, SpeculativeCiteRender};
+use driver_writers::counter::Renders;
+use driver_writers::writer::CiteWriter;
+use mentions_arranging::arranged::arranged_cites;
+use mentions_arranging::order::final_requests;
+use mentions_arranging::repeating::{cites_repeated, firsts_repeated};
+use mentions_arranging::request::{CiteRequest, FinalCite, RequestedCite, Shown};
+use mentions_cited::kept::KeptOfMention;
+use mentions_cited::mention::CiteMention;
+use mentions_cites::arranging::arrange_finally;
+use mentions_cites::cites::{ToldEntries, told_cites};
+use mentions_cites::mentions::{ToldMention, noted_names, told_mentions};
+use mentions_cites::repeats::{
     MentionsTold, all_shown_repeats, set_first_keys, set_shown, shown_repeats,
 };
-use csl_told_cites::requests::{LocatedCite, plain_requests};
-use csl_writers::counter::Renders;
-use csl_writers::writer::CiteWriter;
+use mentions_cites::requests::{LocatedCite, plain_requests};
+use mentions_notes::notes::CiteNotes;
+use mentions_tables::subject::Subject;
+use mentions_tables::tables::Told;
 use std::alloc::{AllocError, Global};
 
 /// A request with its cites in the final order, whose locators are lent by its caller's request.
@@ -134,12 +134,14 @@ impl<'d, 'o, 'a, T: EntryLike, P: Eq + Drop> Draft<'d, 'o, 'a, T, P> {
         requires subjects { map plain subjects.now ≡ mentions T.eq (job_in self) }
         ensures ordered { let job = job_in self.entry in
             IfOk result (λ v. (way : W.Way) → W.agrees writer.new way
-            → AreToldApart T.eq job (writing_of T.answers (W.state writer.old way)) known.entry.told.now
+            → AreToldApart T.eq job (writing_of T.answers (W.state writer.old way))
+            known.entry.told.now
             → all_located (all_arranged_view v.items)
             ≡ ordered T.eq job (writing_of T.answers (W.state writer.old way)) P.eq) }
         ensures asked { let job = job_in self.entry in
             OnOk result ((way : W.Way) → W.agrees writer.new way
-            → AreToldApart T.eq job (writing_of T.answers (W.state writer.old way)) known.entry.told.now
+            → AreToldApart T.eq job (writing_of T.answers (W.state writer.old way))
+            known.entry.told.now
             → desk (W.state writer.new way) counter.new
             ≡ after (repeat_cite_tasks T.eq job (writing_of T.answers (W.state writer.old way))
             P.eq) (desk (W.state writer.old way) counter.old)) }

@@ -4,11 +4,11 @@ ghost use Rattle.std.specs.Coded.{Coded-set};
 ghost use Rattle.std.proofs.Props.{props};
 ghost use Rattle.csl_driver.specs.Answer.{used_order};
 ghost use Rattle.csl_driver.specs.Cited.{IsCitedBy};
-ghost use Rattle.csl_passes.specs.RequestView.{requests_view, wanted_view};
+ghost use Rattle.driver_passes.specs.RequestView.{requests_view, wanted_view};
 
 use crate::cited::Cited;
 use csl_base::entry::EntryLike;
-use csl_passes::acyclic::{AcyclicBibliographyRequest, AcyclicRequests};
+use driver_passes::acyclic::{AcyclicBibliographyRequest, AcyclicRequests};
 use std::alloc::AllocError;
 
 /// Requests and a bibliography whose styles have no rings, and the entries that these requests

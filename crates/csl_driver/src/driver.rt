@@ -2,11 +2,11 @@
 ghost use Rattle.std.specs.Prelude.{◌≡◌, [], OnOk, OnErr, IfErr};
 ghost use Rattle.csl_driver.specs.DriverView.{driver_view};
 ghost use Rattle.csl_driver.specs.Driver.{with_request};
-ghost use Rattle.csl_passes.specs.RequestView.{request_view, requests_view};
+ghost use Rattle.driver_passes.specs.RequestView.{request_view, requests_view};
 
 use crate::error::CitationRefused;
-use csl_passes::places::number_items;
-use csl_passes::request::CitationRequest;
+use driver_passes::places::number_items;
+use driver_passes::request::CitationRequest;
 use std::alloc::Global;
 
 /// Takes requests for citations, one after another, and answers them all at once.

@@ -1,7 +1,7 @@
 //! Why the driver refuses.
-ghost use Rattle.csl_values.specs.Tells.{TellsEqual};
+ghost use Rattle.value_sources.specs.Tells.{TellsEqual};
 
-use csl_passes::request::CitationRequest;
+use driver_passes::request::CitationRequest;
 use std::alloc::AllocError;
 
 /// Why no answer is given.

@@ -1,6 +1,6 @@
 //! The whole answer, from all requests at once.
 ghost use Rattle.std.specs.Prelude.{◌≡◌, ◌+◌, length, map, OnOk, IfErr, IfOk};
-ghost use Rattle.csl_collapse.specs.Collapsed.{collapsed_finally};
+ghost use Rattle.rounds_grouping.specs.Collapsed.{collapsed_finally};
 ghost use Rattle.csl_driver.specs.Answer.{
   citations_of,
   numbered_finally,
@@ -13,13 +13,13 @@ ghost use Rattle.csl_driver.specs.JobView.{job_of};
 ghost use Rattle.csl_driver.specs.DraftView.{job_in, table_in};
 ghost use Rattle.csl_driver.specs.Promised.{Finishes, FinishesWith, IsAnswer, WhereDriverRefuses};
 ghost use Rattle.csl_driver.specs.WriterTasks.{begun_tasks, last_tasks, tasks};
-ghost use Rattle.csl_entries.specs.Entries.{number};
-ghost use Rattle.csl_grouping.specs.Blocks.{grouped};
-ghost use Rattle.csl_passes.specs.RendersView.{renders_view};
-ghost use Rattle.csl_positions.specs.FirstProperties.{numbered_by};
-ghost use Rattle.csl_round_laws.specs.declared.mode.RoundMode.{RoundMode};
-ghost use Rattle.csl_writers.specs.Desk.{after, desk};
-ghost use Rattle.csl_writers.specs.Writing.{asked_for, writing_of};
+ghost use Rattle.driver_entries.specs.Entries.{number};
+ghost use Rattle.rounds_grouping.specs.Blocks.{grouped};
+ghost use Rattle.driver_passes.specs.RendersView.{renders_view};
+ghost use Rattle.driver_positions.specs.FirstProperties.{numbered_by};
+ghost use Rattle.rounds_runs.specs.declared.mode.RoundMode.{RoundMode};
+ghost use Rattle.driver_writers.specs.Desk.{after, desk};
+ghost use Rattle.driver_writers.specs.Writing.{asked_for, writing_of};
 ghost use Rattle.csl_writing.specs.LayoutWriting.{layout_writing};
 
 use crate::account::Account;
@@ -29,24 +29,24 @@ use crate::driver::BibliographyDriver;
 use crate::error::{DriverError, FinishError};
 use crate::laws::answers_keep_laws;
 use crate::rings::without_rings;
-use csl_assembly::citation::citation_tree;
-use csl_assembly::rendered::{Rendered, RenderedCitation};
 use csl_base::entry::EntryLike;
 use csl_base::seq::Seq;
-use csl_collapse::collapse::collapse_cites;
-use csl_grouping::grouping::group_cites;
-use csl_passes::acyclic::AcyclicRequest;
-use csl_passes::renders::{Cites, SpeculativeCiteRender};
-use csl_passes::request::BibliographyRequest;
-use csl_positions::final_order::{final_listing, set_final_properties};
-use csl_positions::first::first_properties;
-use csl_round_laws::mode::RoundMode;
-use csl_rounds::first_renders::first_renders;
-use csl_rounds::rounds::disambiguate;
-use csl_writers::counter::Renders;
-use csl_writers::pushed::push;
-use csl_writers::writer::CiteWriter;
 use csl_writing::layout_writer::LayoutWriter;
+use driver_assembly::citation::citation_tree;
+use driver_assembly::rendered::{Rendered, RenderedCitation};
+use driver_passes::acyclic::AcyclicRequest;
+use driver_passes::renders::{Cites, SpeculativeCiteRender};
+use driver_passes::request::BibliographyRequest;
+use driver_positions::final_order::{final_listing, set_final_properties};
+use driver_positions::first::first_properties;
+use driver_writers::counter::Renders;
+use driver_writers::pushed::push;
+use driver_writers::writer::CiteWriter;
+use rounds_grouping::collapse::collapse_cites;
+use rounds_grouping::grouping::group_cites;
+use rounds_rendering::first_renders::first_renders;
+use rounds_rendering::rounds::disambiguate;
+use rounds_runs::mode::RoundMode;
 use std::alloc::{AllocError, Global};
 
 impl<'a, T: EntryLike, P: Eq + Drop> BibliographyDriver<'a, T, P> {

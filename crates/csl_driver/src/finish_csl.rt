@@ -4,7 +4,7 @@ ghost use Rattle.csl_driver.specs.CslPromised.{IsCslAnswer};
 ghost use Rattle.csl_driver.specs.CslTasks.{csl_tasks};
 ghost use Rattle.csl_driver.specs.JobView.{job_of};
 ghost use Rattle.csl_driver.specs.Promised.{Finishes, FinishesWith, WhereDriverRefuses};
-ghost use Rattle.csl_writers.specs.Writing.{asked_for, writing_of};
+ghost use Rattle.driver_writers.specs.Writing.{asked_for, writing_of};
 ghost use Rattle.csl_writing.specs.LayoutWriting.{layout_writing};
 
 use crate::cited::Cited;
@@ -14,11 +14,11 @@ use crate::driver::BibliographyDriver;
 use crate::error::{DriverError, FinishError};
 use crate::laws::csl_answers_keep_laws;
 use crate::rings::without_rings;
-use csl_assembly::rendered::Rendered;
 use csl_base::entry::EntryLike;
-use csl_passes::request::BibliographyRequest;
-use csl_writers::writer::CiteWriter;
 use csl_writing::layout_writer::LayoutWriter;
+use driver_assembly::rendered::Rendered;
+use driver_passes::request::BibliographyRequest;
+use driver_writers::writer::CiteWriter;
 
 impl<'a, T: EntryLike, P: Eq + Drop> BibliographyDriver<'a, T, P> {
     /// Answers all requests: a citation for each, and the bibliography, where its style has one.

@@ -1,5 +1,5 @@
 //! Laws of what goes in and comes out, of how cites are disambiguated, and of every answer.
-ghost use Rattle.csl_assembly.specs.declared.rendered.Rendered.{Rendered};
+ghost use Rattle.driver_assembly.specs.declared.rendered.Rendered.{Rendered};
 ghost use Rattle.csl_driver.specs.Answer.{Job};
 ghost use Rattle.csl_driver.specs.AnswerLaws.{KeepsLaws};
 ghost use Rattle.csl_driver.specs.CslLaws.{KeepsCslLaws};
@@ -7,23 +7,23 @@ ghost use Rattle.csl_driver.specs.CslPromised.{IsExactlyCsl};
 ghost use Rattle.csl_driver.specs.Promised.{IsExactly};
 ghost use Rattle.csl_driver.specs.declared.account.Account.{Account};
 ghost use Rattle.csl_driver.specs.declared.csl_account.CslAccount.{CslAccount};
-ghost use Rattle.csl_round_laws.specs.declared.mode.RoundMode.{RoundMode};
-ghost use Rattle.csl_writers.specs.Writing.{Writing};
+ghost use Rattle.rounds_runs.specs.declared.mode.RoundMode.{RoundMode};
+ghost use Rattle.driver_writers.specs.Writing.{Writing};
 
-pub use csl_ambiguity::laws::{
-    ambiguous_stand_together, choose_and_suffix_go_on, suffixes_count_entries,
-};
-pub use csl_assembly::laws::{answer_equality_decides, answers_copy_equal};
 use csl_base::entry::EntryLike;
-pub use csl_collapse::laws::collapsed_can_be_read_back;
-pub use csl_entries::laws::{bibliography_holds_each_once, numbers_have_no_gaps};
-pub use csl_grouping::laws::{final_order_laws, grouped_in_final_order};
-pub use csl_name_marks::laws::name_marks_go_on;
-pub use csl_passes::laws::{
+pub use driver_assembly::laws::{answer_equality_decides, answers_copy_equal};
+pub use driver_entries::laws::{bibliography_holds_each_once, numbers_have_no_gaps};
+pub use driver_passes::laws::{
     bibliography_request_equality_decides, first_equality_decides, item_equality_decides,
     items_copy_equal, properties_equality_decides, request_equality_decides,
 };
-pub use csl_round_laws::laws::runs_are_lawful;
+pub use rounds_ambiguity::laws::{
+    ambiguous_stand_together, choose_and_suffix_go_on, suffixes_count_entries,
+};
+pub use rounds_grouping::collapse_laws::collapsed_can_be_read_back;
+pub use rounds_grouping::laws::{final_order_laws, grouped_in_final_order};
+pub use rounds_names::laws::name_marks_go_on;
+pub use rounds_runs::laws::runs_are_lawful;
 
 /// A law of every answer and its account, whatever is asked: there are tables of states, from the
 /// empty one to the account's, along which states go on, suffixes stay, nothing is left, and (in

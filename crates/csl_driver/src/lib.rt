@@ -4,17 +4,17 @@
 //! values, entries and trees, and what a cite is written with.
 #![tactic(auto)]
 
-pub use csl_assembly::rendered;
 pub use csl_base::{
     elem, element, entry, formatting, initials, locale, names, seq, stack, style, taxonomy, text,
 };
-pub use csl_passes::{item, request};
-pub use csl_round_laws::mode;
-pub use csl_writers::{task, writer};
 pub use csl_writing::{
     apart, brackets, cite, context, counter, layout_writer, locator, lookup, means, prepared,
     properties, purpose, state, terms, token, writing, year,
 };
+pub use driver_assembly::rendered;
+pub use driver_passes::{item, request};
+pub use driver_writers::{task, writer};
+pub use rounds_runs::mode;
 
 pub mod account;
 mod bibliography;

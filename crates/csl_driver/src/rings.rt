@@ -1,11 +1,11 @@
 //! Styles whose macros call each other in a ring are refused before anything is rendered.
 ghost use Rattle.std.specs.Prelude.{◌≡◌, IfOk, IfErr, IfSome, None};
-ghost use Rattle.csl_passes.specs.RequestView.{requests_view, wanted_view};
+ghost use Rattle.driver_passes.specs.RequestView.{requests_view, wanted_view};
 ghost use Rattle.csl_driver.specs.Rings.{IsFirstRingAt, NoRingIn, RefusesRing};
 
 use crate::error::{DriverError, RingLocation};
-use csl_passes::acyclic::{AcyclicBibliographyRequest, AcyclicRequests};
-use csl_passes::request::{BibliographyRequest, CitationRequest};
+use driver_passes::acyclic::{AcyclicBibliographyRequest, AcyclicRequests};
+use driver_passes::request::{BibliographyRequest, CitationRequest};
 use std::alloc::{AllocError, Global};
 
 /// The same requests, if no style has a ring. Else the first that has one is refused: those of the

@@ -1,13 +1,13 @@
 //! A citation that stands for itself.
 ghost use Rattle.std.specs.Prelude.{◌≡◌, IfOk, OnOk, IfErr, map};
-ghost use Rattle.csl_style_values.specs.Ring.{HasNoRing};
-ghost use Rattle.csl_style_values.specs.StyleView.{layout_view};
-ghost use Rattle.csl_passes.specs.Request.{source_of};
-ghost use Rattle.csl_passes.specs.RequestView.{cite_view, request_view};
+ghost use Rattle.value_styles.specs.Ring.{HasNoRing};
+ghost use Rattle.value_styles.specs.StyleView.{layout_view};
+ghost use Rattle.driver_passes.specs.Request.{source_of};
+ghost use Rattle.driver_passes.specs.RequestView.{cite_view, request_view};
 ghost use Rattle.csl_driver.specs.Rings.{RefusesAlone};
-ghost use Rattle.csl_assembly.specs.LastTree.{tree_by_purpose};
-ghost use Rattle.csl_assembly.specs.ShownView.{shown_views};
-ghost use Rattle.csl_lookup.specs.PropertiesView.{properties_view};
+ghost use Rattle.driver_assembly.specs.LastTree.{tree_by_purpose};
+ghost use Rattle.driver_assembly.specs.ShownView.{shown_views};
+ghost use Rattle.driver_lookup.specs.PropertiesView.{properties_view};
 ghost use Rattle.csl_driver.specs.StandaloneCitation.{
   behind,
   lone_delimiter,
@@ -19,18 +19,18 @@ ghost use Rattle.csl_driver.specs.StandaloneCitation.{
 ghost use Rattle.csl_writing.specs.LayoutWriting.{layout_writing};
 
 use crate::error::{DriverError, RingLocation};
-use csl_assembly::assemble::{ShownCite, assembled};
-use csl_assembly::last_tree::tree_by_purpose;
 use csl_base::elem::ElemChildren;
 use csl_base::entry::EntryLike;
 use csl_base::style::Layout;
-use csl_passes::acyclic::AcyclicRequest;
-use csl_passes::item::CitationItem;
-use csl_passes::request::CitationRequest;
-use csl_writers::counter::Renders;
-use csl_writers::task::CiteTask;
 use csl_writing::layout_writer::LayoutWriter;
 use csl_writing::properties::CiteProperties;
+use driver_assembly::assemble::{ShownCite, assembled};
+use driver_assembly::last_tree::tree_by_purpose;
+use driver_passes::acyclic::AcyclicRequest;
+use driver_passes::item::CitationItem;
+use driver_passes::request::CitationRequest;
+use driver_writers::counter::Renders;
+use driver_writers::task::CiteTask;
 use std::alloc::{AllocError, Global};
 
 /// The tree of a cite that has no number and no place of its own.

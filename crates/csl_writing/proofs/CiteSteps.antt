@@ -1,21 +1,21 @@
 -- A cite from what is written and noted of it.
 use Rattle.std.proofs.Common.{◌≡◌, Bool, ◌&&◌, List, [], Option, Some, ap, sym, ◌∙◌}
 use Rattle.std.specs.Prelude.{is_some, unwrap_or}
-use Rattle.csl_values.specs.Answers.{Answers}
-use Rattle.csl_trees.specs.Child.{Child}
-use Rattle.csl_picking.specs.declared.notes.Notes.{Notes}
-use Rattle.csl_lookup.specs.declared.purpose.CitePurpose.{CitePurpose}
-use Rattle.csl_lookup.specs.declared.state.CollapseVerdict.{CollapseVerdict}
+use Rattle.value_sources.specs.Answers.{Answers}
+use Rattle.value_trees.specs.Child.{Child}
+use Rattle.layout_picking.specs.declared.notes.Notes.{Notes}
+use Rattle.driver_lookup.specs.declared.purpose.CitePurpose.{CitePurpose}
+use Rattle.driver_lookup.specs.declared.state.CollapseVerdict.{CollapseVerdict}
 use Rattle.csl_writing.specs.CiteText.{arranged, rendered_cite}
-use Rattle.csl_picking.specs.Env as env
-use Rattle.csl_lookup.specs.Lookup.{Source, lookup}
-use Rattle.csl_picking.specs.Notes.{first_notes}
+use Rattle.layout_picking.specs.Env as env
+use Rattle.driver_lookup.specs.Lookup.{Source, lookup}
+use Rattle.layout_picking.specs.Notes.{first_notes}
 use Rattle.csl_writing.specs.Plans.{cite_plan}
-use Rattle.csl_lookup.specs.Properties.{Properties}
+use Rattle.driver_lookup.specs.Properties.{Properties}
 use Rattle.csl_writing.specs.StepsWritten.{steps_written, finished, tree_of, IsCarriedOut}
 use Rattle.csl_writing.specs.Subject.{Subject, subject, cite_of}
-use Rattle.csl_styles.specs.SuffixText.{explicit_suffix}
-use Rattle.csl_context.specs.WritingState.{State, begun, flushed}
+use Rattle.driver_styles.specs.SuffixText.{explicit_suffix}
+use Rattle.layout_context.specs.WritingState.{State, begun, flushed}
 
 -- a flushed tree is the finished one
 pub tree_finished : (a : State) (tree : List Child) → flushed a ≡ Some tree → tree ≡ finished a

@@ -4,11 +4,11 @@ use Rattle.std.proofs.lemmas.Bool.{ltb-false}
 use Rattle.std.proofs.lemmas.List.{length-take-le, length-set}
 use Rattle.std.specs.Prelude.{slice_set, nat_lt}
 use Rattle.std.specs.Option.{option_map_or}
-use Rattle.csl_trees.specs.Child.{Child}
-use Rattle.csl_values.specs.declared.formatting.Formatting.{Formatting}
-use Rattle.csl_values.specs.declared.formatting.StyleFormatting.{StyleFormatting}
-use Rattle.csl_context.specs.OpenFrames.{Frames, on_top, top}
-use Rattle.csl_context.specs.WritingState.{State, is_saved, saved, formatted, unformatted, cut_formats, asks_nothing}
+use Rattle.value_trees.specs.Child.{Child}
+use Rattle.value_sources.specs.declared.formatting.Formatting.{Formatting}
+use Rattle.value_sources.specs.declared.formatting.StyleFormatting.{StyleFormatting}
+use Rattle.layout_context.specs.OpenFrames.{Frames, on_top, top}
+use Rattle.layout_context.specs.WritingState.{State, is_saved, saved, formatted, unformatted, cut_formats, asks_nothing}
 
 pub either_has : (P : State → Type 0) (b : Bool) (x y : State) → P x → P y → P (cond b x y)
 either_has P true x y p q = p

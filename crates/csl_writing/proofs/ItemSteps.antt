@@ -3,23 +3,23 @@ use Rattle.std.proofs.Common.{◌≡◌, ℕ, ◌≤◌, true, List, length, Opt
 use Rattle.std.proofs.lemmas.List.{length-take-le}
 use Rattle.std.specs.Prelude.{take}
 use Rattle.std.specs.Str.{trim_end}
-use Rattle.csl_trees.specs.Child.{Child}
-use Rattle.csl_style_values.specs.Element.{NameOptions}
-use Rattle.csl_style_values.specs.Style.{BibliographyValue}
-use Rattle.csl_picking.specs.declared.notes.Form.{Form}
-use Rattle.csl_picking.specs.declared.notes.Notes.{Notes}
+use Rattle.value_trees.specs.Child.{Child}
+use Rattle.value_styles.specs.Element.{NameOptions}
+use Rattle.value_styles.specs.Style.{BibliographyValue}
+use Rattle.layout_picking.specs.declared.notes.Form.{Form}
+use Rattle.layout_picking.specs.declared.notes.Notes.{Notes}
 use Rattle.csl_writing.specs.declared.section.Section as declared
 use Rattle.csl_writing.specs.CiteText.{enclosed, layout_affixes, rendered_item}
-use Rattle.csl_lookup.specs.Lookup.{Lookup, lookup}
-use Rattle.csl_picking.specs.Notes.{first_notes}
+use Rattle.driver_lookup.specs.Lookup.{Lookup, lookup}
+use Rattle.layout_picking.specs.Notes.{first_notes}
 use Rattle.csl_writing.specs.Plans.{plan_of}
 use Rattle.csl_writing.specs.SectionView.{IsSection}
 use Rattle.csl_writing.specs.Sections.{Section, item_section}
-use Rattle.csl_context.specs.Steps.{ClosingQuotes, term_text, opens_tight, has_letter, without_ending, pulled}
+use Rattle.layout_context.specs.Steps.{ClosingQuotes, term_text, opens_tight, has_letter, without_ending, pulled}
 use Rattle.csl_writing.specs.StepsWritten.{steps_written, finished, IsCarriedOut}
 use Rattle.csl_writing.specs.Subject.{Subject}
-use Rattle.csl_context.specs.Wording.{closing_quotes, pushed, with_suffix, suffixed}
-use Rattle.csl_context.specs.WritingState.{State, is_saved, saved, on_text_before, trimmed_for, unrepeated_for, may_pull, on_quoted_text, after_pull, left_by_pull, written, after_push_str, begun, prefixed, ends_so, closed_elem, discarded, has_content_since, flushed}
+use Rattle.layout_context.specs.Wording.{closing_quotes, pushed, with_suffix, suffixed}
+use Rattle.layout_context.specs.WritingState.{State, is_saved, saved, on_text_before, trimmed_for, unrepeated_for, may_pull, on_quoted_text, after_pull, left_by_pull, written, after_push_str, begun, prefixed, ends_so, closed_elem, discarded, has_content_since, flushed}
 use Rattle.csl_writing.proofs.FormatHeights.{either_has, formats-saved}
 use Rattle.csl_writing.proofs.CiteSteps.{tree_finished}
 

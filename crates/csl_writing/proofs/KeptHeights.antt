@@ -5,22 +5,22 @@ use Rattle.std.proofs.lemmas.Option.{slice_get-get_or}
 use Rattle.std.specs.Prelude.{take}
 use Rattle.std.specs.Option.{option_map_or}
 use Rattle.std.specs.Str.{trim_end}
-use Rattle.csl_trees.specs.Child.{Child}
-use Rattle.csl_lists.specs.Stack.{topmost, put_topmost}
-use Rattle.csl_trees.specs.declared.elem.ElemMeta.{ElemMeta}
-use Rattle.csl_values.specs.declared.entry.Chunk.{Chunk}
-use Rattle.csl_values.specs.declared.entry.ChunkKind.{ChunkKind}
-use Rattle.csl_values.specs.Formatting.{nothing_asked}
-use Rattle.csl_values.specs.declared.formatting.Display.{Display}
-use Rattle.csl_values.specs.declared.formatting.StyleFormatting.{StyleFormatting}
-use Rattle.csl_values.specs.declared.taxonomy.OtherTerm.{OtherTerm}
-use Rattle.csl_lookup.specs.Lookup.{Lookup, punctuation_in_quotes}
-use Rattle.csl_context.specs.OpenFrames.{Frames, is_filled, filled, on_filled, on_top, below, closed, committed}
+use Rattle.value_trees.specs.Child.{Child}
+use Rattle.value_lists.specs.Stack.{topmost, put_topmost}
+use Rattle.value_trees.specs.declared.elem.ElemMeta.{ElemMeta}
+use Rattle.value_sources.specs.declared.entry.Chunk.{Chunk}
+use Rattle.value_sources.specs.declared.entry.ChunkKind.{ChunkKind}
+use Rattle.value_sources.specs.Formatting.{nothing_asked}
+use Rattle.value_sources.specs.declared.formatting.Display.{Display}
+use Rattle.value_sources.specs.declared.formatting.StyleFormatting.{StyleFormatting}
+use Rattle.value_sources.specs.declared.taxonomy.OtherTerm.{OtherTerm}
+use Rattle.driver_lookup.specs.Lookup.{Lookup, punctuation_in_quotes}
+use Rattle.layout_context.specs.OpenFrames.{Frames, is_filled, filled, on_filled, on_top, below, closed, committed}
 use Rattle.csl_writing.specs.PartsWritten.{leaf_written, node_begun, node_ended, delimiter_pushed, part_written, joined_written, rest_written, parts_written}
-use Rattle.csl_picking.specs.Pieces.{LeafValue, text_leaf, number_leaf, suffix_leaf, chunked_leaf, link_leaf, mark_leaf, NodeValue, Part, leaf_part, node_part, Parts, no_parts, part, parts_of}
-use Rattle.csl_context.specs.Steps.{ClosingQuotes, term_text, opens_tight, has_letter, without_ending, pulled}
-use Rattle.csl_context.specs.Wording.{plain_term, closing_quotes, pushed, term_pushed, opening_quote, closing_quote, quotes_opened, quotes_closed, pulling_if_asked, chunk_of_kind, chunks_pushed, linked, marked, with_suffix, suffixed}
-use Rattle.csl_context.specs.WritingState.{State, is_saved, saved, with_child, on_text_before, trimmed_for, unrepeated_for, may_pull, on_quoted_text, after_pull, left_by_pull, written, after_push_str, verbatim, formatted, opened, closed_elem, discarded, prefixed, has_content_since, ends_so, stripping, not_stripping, less_deep}
+use Rattle.layout_picking.specs.Pieces.{LeafValue, text_leaf, number_leaf, suffix_leaf, chunked_leaf, link_leaf, mark_leaf, NodeValue, Part, leaf_part, node_part, Parts, no_parts, part, parts_of}
+use Rattle.layout_context.specs.Steps.{ClosingQuotes, term_text, opens_tight, has_letter, without_ending, pulled}
+use Rattle.layout_context.specs.Wording.{plain_term, closing_quotes, pushed, term_pushed, opening_quote, closing_quote, quotes_opened, quotes_closed, pulling_if_asked, chunk_of_kind, chunks_pushed, linked, marked, with_suffix, suffixed}
+use Rattle.layout_context.specs.WritingState.{State, is_saved, saved, with_child, on_text_before, trimmed_for, unrepeated_for, may_pull, on_quoted_text, after_pull, left_by_pull, written, after_push_str, verbatim, formatted, opened, closed_elem, discarded, prefixed, has_content_since, ends_so, stripping, not_stripping, less_deep}
 use Rattle.csl_writing.proofs.FormatHeights.{either_has, length-on_top, formats-saved, frames-saved, formats-formatted, frames-formatted}
 
 pub record Keeps (a b : State) : Type 0 where

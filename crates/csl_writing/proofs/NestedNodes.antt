@@ -6,10 +6,10 @@ use Rattle.std.specs.List.{slice_get}
 use Rattle.std.proofs.lemmas.List.{map-append, length-append}
 use Rattle.std.proofs.lemmas.Option.{slice_get_within}
 use Rattle.csl_writing.specs.declared.open_node.OpenNode.{OpenNode}
-use Rattle.csl_context.specs.declared.writing.WritingContext.{WritingContext}
-use Rattle.csl_lookup.specs.Lookup.{Lookup}
-use Rattle.csl_picking.specs.PiecesView.{node_view}
-use Rattle.csl_context.specs.WritingState.{state}
+use Rattle.layout_context.specs.declared.writing.WritingContext.{WritingContext}
+use Rattle.driver_lookup.specs.Lookup.{Lookup}
+use Rattle.layout_picking.specs.PiecesView.{node_view}
+use Rattle.layout_context.specs.WritingState.{state}
 use Rattle.csl_writing.specs.PartsWritten.{node_ended}
 use Rattle.csl_writing.specs.PieceRun.{innermost, closed_run}
 use Rattle.csl_writing.specs.OpenNodes.{open_view, open_views, IsNested, run_of}

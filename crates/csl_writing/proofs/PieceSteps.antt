@@ -4,9 +4,9 @@ use Rattle.std.specs.Option.{option_and_then}
 use Rattle.std.specs.List.{slice_get}
 use Rattle.std.proofs.lemmas.List.{length-append}
 use Rattle.std.proofs.Math.Seq.{take-append_seam}
-use Rattle.csl_lookup.specs.Lookup.{Lookup}
-use Rattle.csl_picking.specs.Pieces.{Part, leaf_part, node_part, Parts, no_parts, part, parts_of, Token, closing, part_tokens, parts_tokens, tokens}
-use Rattle.csl_context.specs.WritingState.{State}
+use Rattle.driver_lookup.specs.Lookup.{Lookup}
+use Rattle.layout_picking.specs.Pieces.{Part, leaf_part, node_part, Parts, no_parts, part, parts_of, Token, closing, part_tokens, parts_tokens, tokens}
+use Rattle.layout_context.specs.WritingState.{State}
 use Rattle.csl_writing.specs.PartsWritten.{node_begun, node_ended, delimiter_pushed, part_written, joined_written, rest_written, parts_written}
 use Rattle.csl_writing.specs.PieceRun.{OpenValue, Run, innermost, delimiter_of, separated, after_leaf, after_opening, closed_run, after_token, after_tokens}
 

@@ -2,19 +2,19 @@
 use Rattle.std.proofs.Common.{◌≡◌, ℕ, ◌≤◌, ◌∷◌, ◌++◌, [], List, length, codes, refl, ap, sym, subst, ◌∙◌, arith}
 use Rattle.std.specs.Prelude.{Result, IfOk, Option}
 use Rattle.std.specs.declared.alloc.AllocError.{AllocError}
-use Rattle.csl_picking.specs.declared.notes.Notes.{Notes}
+use Rattle.layout_picking.specs.declared.notes.Notes.{Notes}
 use Rattle.csl_writing.specs.declared.section.Section as declared
-use Rattle.csl_lookup.specs.declared.state.CollapseVerdict.{CollapseVerdict}
-use Rattle.csl_lookup.specs.Lookup.{Lookup}
+use Rattle.driver_lookup.specs.declared.state.CollapseVerdict.{CollapseVerdict}
+use Rattle.driver_lookup.specs.Lookup.{Lookup}
 use Rattle.csl_writing.specs.PartsWritten.{parts_written}
-use Rattle.csl_picking.specs.Pieces.{Part, tokens}
-use Rattle.csl_picking.specs.PiecesView.{tokens_of}
+use Rattle.layout_picking.specs.Pieces.{Part, tokens}
+use Rattle.layout_picking.specs.PiecesView.{tokens_of}
 use Rattle.csl_writing.specs.Plans.{PlanStep, plan_of, text_steps, gap_steps, rest_section, enclosing, prose_plan}
 use Rattle.csl_writing.specs.SectionView.{IsSection}
 use Rattle.csl_writing.specs.Sections.{Section, author_section}
 use Rattle.csl_writing.specs.StepsWritten.{steps_written, IsCarriedOut, IsWritten}
 use Rattle.csl_writing.specs.Subject.{Subject}
-use Rattle.csl_context.specs.WritingState.{State, formatted, unformatted}
+use Rattle.layout_context.specs.WritingState.{State, formatted, unformatted}
 use Rattle.csl_writing.proofs.KeptHeights.{parts_keep}
 use Rattle.csl_writing.proofs.FormatHeights.{formats-formatted, frames-formatted, formats-unformatted, frames-unformatted}
 

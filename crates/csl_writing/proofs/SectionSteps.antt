@@ -4,17 +4,17 @@ use Rattle.std.proofs.Math.Dec.{eqb-suc-zero}
 use Rattle.std.proofs.lemmas.List.{length-map}
 use Rattle.std.specs.Prelude.{Result, IfOk}
 use Rattle.std.specs.declared.alloc.AllocError.{AllocError}
-use Rattle.csl_style_values.specs.Element.{Elements, Macro}
-use Rattle.csl_values.specs.declared.formatting.StyleFormatting.{StyleFormatting}
-use Rattle.csl_picking.specs.declared.notes.Form.{Form}
-use Rattle.csl_picking.specs.declared.notes.Notes.{Notes}
-use Rattle.csl_picking.specs.declared.pieces.Piece.{Piece}
+use Rattle.value_styles.specs.Element.{Elements, Macro}
+use Rattle.value_sources.specs.declared.formatting.StyleFormatting.{StyleFormatting}
+use Rattle.layout_picking.specs.declared.notes.Form.{Form}
+use Rattle.layout_picking.specs.declared.notes.Notes.{Notes}
+use Rattle.layout_picking.specs.declared.pieces.Piece.{Piece}
 use Rattle.csl_writing.specs.declared.section.Section as declared
-use Rattle.csl_picking.specs.Env.{Env}
-use Rattle.csl_picking.specs.Pieces.{Part, leaf_part, node_part, tokens}
-use Rattle.csl_picking.specs.PiecesView.{token_of, tokens_of}
+use Rattle.layout_picking.specs.Env.{Env}
+use Rattle.layout_picking.specs.Pieces.{Part, leaf_part, node_part, tokens}
+use Rattle.layout_picking.specs.PiecesView.{token_of, tokens_of}
 use Rattle.csl_writing.specs.SectionView.{IsSection}
-use Rattle.csl_picking.specs.Conditions.{is_repeated}
+use Rattle.layout_picking.specs.Conditions.{is_repeated}
 use Rattle.csl_writing.specs.Subject.{Subject, as_different}
 use Rattle.csl_writing.specs.Sections.{Section, no_section, picked_section, citation_section, citation_anew, has_parts, shown_or}
 

@@ -1,25 +1,25 @@
 -- What is written of a cite by what it is written for, and of an item of the bibliography.
 use Rattle.std.specs.Prelude.{◌∷◌, List, [], Bool, true, false, Option, None, Some, length, option_map, is_some, if◌then◌else◌}
-use Rattle.csl_values.specs.Answers.{Answers}
-use Rattle.csl_trees.specs.Child.{Child}
-use Rattle.csl_style_values.specs.Element.{Affix}
-use Rattle.csl_style_values.specs.Style.{StyleValue, LayoutValue, BibliographyValue}
-use Rattle.csl_writers.specs.declared.cite.Cite.{Cite}
-use Rattle.csl_picking.specs.declared.notes.Form.{Form}
-use Rattle.csl_lookup.specs.declared.purpose.CitePurpose.{CitePurpose}
-use Rattle.csl_lookup.specs.declared.state.CollapseVerdict.{CollapseVerdict}
+use Rattle.value_sources.specs.Answers.{Answers}
+use Rattle.value_trees.specs.Child.{Child}
+use Rattle.value_styles.specs.Element.{Affix}
+use Rattle.value_styles.specs.Style.{StyleValue, LayoutValue, BibliographyValue}
+use Rattle.driver_writers.specs.declared.cite.Cite.{Cite}
+use Rattle.layout_picking.specs.declared.notes.Form.{Form}
+use Rattle.driver_lookup.specs.declared.purpose.CitePurpose.{CitePurpose}
+use Rattle.driver_lookup.specs.declared.state.CollapseVerdict.{CollapseVerdict}
 pub use Rattle.csl_writing.specs.DateText.{date_text}
 use Rattle.csl_writing.specs.FirstField.{first_field_first}
-use Rattle.csl_lookup.specs.Lookup.{Source, Lookup, lookup}
-use Rattle.csl_picking.specs.Notes.{first_notes}
+use Rattle.driver_lookup.specs.Lookup.{Source, Lookup, lookup}
+use Rattle.layout_picking.specs.Notes.{first_notes}
 use Rattle.csl_writing.specs.Plans.{PlanStep, step_of, cite_plan}
-use Rattle.csl_lookup.specs.Properties.{Properties}
+use Rattle.driver_lookup.specs.Properties.{Properties}
 use Rattle.csl_writing.specs.Sections.{item_section}
-use Rattle.csl_context.specs.Steps.{term_text}
+use Rattle.layout_context.specs.Steps.{term_text}
 use Rattle.csl_writing.specs.StepsWritten.{steps_written, finished, tree_of}
 use Rattle.csl_writing.specs.Subject.{Subject, subject}
-use Rattle.csl_context.specs.Wording.{suffixed}
-use Rattle.csl_context.specs.WritingState.{State, begun, prefixed}
+use Rattle.layout_context.specs.Wording.{suffixed}
+use Rattle.layout_context.specs.WritingState.{State, begun, prefixed}
 
 -- the second fields of the bibliography are aligned
 abbrev pub aligns_second_field : Option BibliographyValue → Bool

@@ -1,6 +1,6 @@
 -- The plain data that a style context stands for.
-use Rattle.csl_lookup.specs.Lookup.{Source}
-use Rattle.csl_lookup.specs.SourceView.{source_view}
+use Rattle.driver_lookup.specs.Lookup.{Source}
+use Rattle.driver_lookup.specs.SourceView.{source_view}
 use Rattle.csl_writing.specs.declared.lookup.StyleContext.{StyleContext}
 
 abbrev pub context_source : StyleContext → Source

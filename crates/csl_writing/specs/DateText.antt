@@ -1,15 +1,15 @@
 -- The date text: the year of an entry alone.
 use Rattle.std.specs.Prelude.{◌∷◌, [], ◌++◌, List, ℕ, Option, None, Some, false, codes}
-use Rattle.csl_values.specs.Answers.{Answers}
-use Rattle.csl_trees.specs.Child.{Child, text}
-use Rattle.csl_values.specs.Formatting.{normal}
-use Rattle.csl_values.specs.declared.entry.Date.{Date}
-use Rattle.csl_values.specs.declared.taxonomy.DateVariable.{DateVariable}
-use Rattle.csl_values.specs.declared.taxonomy.OtherTerm.{OtherTerm}
-use Rattle.csl_lookup.specs.Lookup.{Source, lookup, term_of, first_answer}
-use Rattle.csl_lookup.specs.SuffixLetters.{suffix_letters}
-use Rattle.csl_picking.specs.Variables.{words_for}
-use Rattle.csl_lookup.specs.Years.{year_text}
+use Rattle.value_sources.specs.Answers.{Answers}
+use Rattle.value_trees.specs.Child.{Child, text}
+use Rattle.value_sources.specs.Formatting.{normal}
+use Rattle.value_sources.specs.declared.entry.Date.{Date}
+use Rattle.value_sources.specs.declared.taxonomy.DateVariable.{DateVariable}
+use Rattle.value_sources.specs.declared.taxonomy.OtherTerm.{OtherTerm}
+use Rattle.driver_lookup.specs.Lookup.{Source, lookup, term_of, first_answer}
+use Rattle.driver_lookup.specs.SuffixLetters.{suffix_letters}
+use Rattle.layout_picking.specs.Variables.{words_for}
+use Rattle.driver_lookup.specs.Years.{year_text}
 
 -- the first that an entry has of the dates that stand for it
 abbrev pub date_of_entry : Answers → Option Date

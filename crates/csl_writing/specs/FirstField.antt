@@ -1,9 +1,9 @@
 -- A full cite whose first field stands in front.
 use Rattle.std.specs.Prelude.{◌++◌, List, codes, option_to_list}
 use Rattle.std.specs.List.{find, remove, position_or_len}
-use Rattle.csl_trees.specs.Child.{Child}
-use Rattle.csl_trees.specs.Metas.{child_has_any_meta}
-use Rattle.csl_context.specs.OpenFrames.{on_last_text}
+use Rattle.value_trees.specs.Child.{Child}
+use Rattle.value_trees.specs.Metas.{child_has_any_meta}
+use Rattle.layout_context.specs.OpenFrames.{on_last_text}
 
 -- a tree with a space behind its last text
 abbrev pub spaced_behind : List Child → List Child

@@ -1,11 +1,11 @@
 -- What the layouts of styles write.
 use Rattle.std.specs.Prelude.{◌≡◌, List, [], Option}
 use Rattle.std.proofs.Common.{ap}
-use Rattle.csl_values.specs.Answers.{Answers}
-use Rattle.csl_trees.specs.Child.{Child}
-use Rattle.csl_writers.specs.Tasks.{CiteTaskValue, DateTaskValue, ItemTaskValue}
-use Rattle.csl_writers.specs.Writing.{AreWrittenEqually, Writing, WriterState}
-use Rattle.csl_writers.specs.declared.cite.Cite.{Cite}
+use Rattle.value_sources.specs.Answers.{Answers}
+use Rattle.value_trees.specs.Child.{Child}
+use Rattle.driver_writers.specs.Tasks.{CiteTaskValue, DateTaskValue, ItemTaskValue}
+use Rattle.driver_writers.specs.Writing.{AreWrittenEqually, Writing, WriterState}
+use Rattle.driver_writers.specs.declared.cite.Cite.{Cite}
 use Rattle.csl_writing.specs.CiteText.{bibliography_text, cite, date_text}
 
 abbrev pub layout_date : {E : Type 0} → (E → Answers) → DateTaskValue E → List Child

@@ -1,9 +1,9 @@
 -- The open nodes of `src/` as plain data.
 use Rattle.std.specs.Prelude.{◌≡◌, ℕ, Bool, ◌+◌, ◌*◌, ◌-◌, List, length, map, slice_get, Some}
 use Rattle.csl_writing.specs.declared.open_node.OpenNode.{OpenNode}
-use Rattle.csl_picking.specs.PiecesView.{node_view}
-use Rattle.csl_context.specs.declared.writing.WritingContext.{WritingContext}
-use Rattle.csl_context.specs.WritingState.{state}
+use Rattle.layout_picking.specs.PiecesView.{node_view}
+use Rattle.layout_context.specs.declared.writing.WritingContext.{WritingContext}
+use Rattle.layout_context.specs.WritingState.{state}
 use Rattle.csl_writing.specs.PieceRun.{OpenValue, Run}
 
 abbrev pub open_view : OpenNode → OpenValue

@@ -1,12 +1,12 @@
 -- What writing makes of the parts that a layout picks.
 use Rattle.std.specs.Prelude.{ℕ, if◌then◌else◌, List, length, Option, None, Some}
 use Rattle.std.specs.Fmt.{decimal}
-use Rattle.csl_lookup.specs.Lookup.{Lookup}
-use Rattle.csl_lookup.specs.SuffixLetters.{suffix_letters}
-use Rattle.csl_context.specs.Steps.{term_text}
-use Rattle.csl_picking.specs.Pieces.{LeafValue, text_leaf, number_leaf, suffix_leaf, chunked_leaf, link_leaf, mark_leaf, NodeValue, Part, leaf_part, node_part, Parts, no_parts, part, parts_of}
-use Rattle.csl_context.specs.WritingState.{State, prefixed, opened, closed_elem, stripping, not_stripping}
-use Rattle.csl_context.specs.Wording.{pushed, chunks_pushed, joined_values, linked, marked, quotes_opened, quotes_closed, pulling_if_asked, suffixed}
+use Rattle.driver_lookup.specs.Lookup.{Lookup}
+use Rattle.driver_lookup.specs.SuffixLetters.{suffix_letters}
+use Rattle.layout_context.specs.Steps.{term_text}
+use Rattle.layout_picking.specs.Pieces.{LeafValue, text_leaf, number_leaf, suffix_leaf, chunked_leaf, link_leaf, mark_leaf, NodeValue, Part, leaf_part, node_part, Parts, no_parts, part, parts_of}
+use Rattle.layout_context.specs.WritingState.{State, prefixed, opened, closed_elem, stripping, not_stripping}
+use Rattle.layout_context.specs.Wording.{pushed, chunks_pushed, joined_values, linked, marked, quotes_opened, quotes_closed, pulling_if_asked, suffixed}
 
 unfoldable pub leaf_written : Lookup → LeafValue → State → State
 leaf_written k (text_leaf s) a = pushed k s a

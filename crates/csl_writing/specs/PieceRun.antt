@@ -1,9 +1,9 @@
 -- Writing piece by piece: what is open, and what each token makes of it.
 use Rattle.std.specs.Prelude.{ℕ, ◌-◌, Bool, true, false, if◌then◌else◌, List, [], ◌∷◌, ◌++◌, length, take, slice_get, Option, None, Some}
 use Rattle.std.specs.Option.{option_and_then}
-use Rattle.csl_lookup.specs.Lookup.{Lookup}
-use Rattle.csl_picking.specs.Pieces.{NodeValue, LeafValue, Token, opening, leaf_token, closing}
-use Rattle.csl_context.specs.WritingState.{State}
+use Rattle.driver_lookup.specs.Lookup.{Lookup}
+use Rattle.layout_picking.specs.Pieces.{NodeValue, LeafValue, Token, opening, leaf_token, closing}
+use Rattle.layout_context.specs.WritingState.{State}
 use Rattle.csl_writing.specs.PartsWritten.{leaf_written, node_begun, node_ended, delimiter_pushed}
 
 -- a node that is open, and how many formats there were before it

@@ -4,17 +4,17 @@ use Rattle.std.specs.Str.{chars}
 use Rattle.std.specs.Bool.{if◌then◌else◌}
 use Rattle.std.specs.List.{list_any}
 use Rattle.std.specs.Char.{is_whitespace}
-use Rattle.csl_style_values.specs.Style.{StyleValue, LayoutValue}
-use Rattle.csl_values.specs.declared.formatting.StyleFormatting.{StyleFormatting}
-use Rattle.csl_style_values.specs.declared.style.StyleCategory.{StyleCategory}
-use Rattle.csl_style_values.specs.declared.style.StyleCategory.TheVariants as categories
-use Rattle.csl_style_values.specs.declared.style.CitationFormat.{CitationFormat}
-use Rattle.csl_picking.specs.declared.notes.Form.{Form}
-use Rattle.csl_picking.specs.declared.notes.Notes.{Notes}
-use Rattle.csl_lookup.specs.declared.purpose.CitePurpose.{CitePurpose}
-use Rattle.csl_lookup.specs.declared.state.CollapseVerdict.{CollapseVerdict}
-use Rattle.csl_picking.specs.Pieces.{Part}
-use Rattle.csl_context.specs.Steps.{first_is}
+use Rattle.value_styles.specs.Style.{StyleValue, LayoutValue}
+use Rattle.value_sources.specs.declared.formatting.StyleFormatting.{StyleFormatting}
+use Rattle.value_styles.specs.declared.style.StyleCategory.{StyleCategory}
+use Rattle.value_styles.specs.declared.style.StyleCategory.TheVariants as categories
+use Rattle.value_styles.specs.declared.style.CitationFormat.{CitationFormat}
+use Rattle.layout_picking.specs.declared.notes.Form.{Form}
+use Rattle.layout_picking.specs.declared.notes.Notes.{Notes}
+use Rattle.driver_lookup.specs.declared.purpose.CitePurpose.{CitePurpose}
+use Rattle.driver_lookup.specs.declared.state.CollapseVerdict.{CollapseVerdict}
+use Rattle.layout_picking.specs.Pieces.{Part}
+use Rattle.layout_context.specs.Steps.{first_is}
 use Rattle.csl_writing.specs.Subject.{Subject}
 use Rattle.csl_writing.specs.Sections.{Section, citation_section, author_section, regular_section, full_section}
 

@@ -1,8 +1,8 @@
 -- What of `src/` holds a section.
 use Rattle.std.specs.Prelude.{◌≡◌}
 use Rattle.csl_writing.specs.declared.section.Section as declared
-use Rattle.csl_picking.specs.Pieces.{tokens}
-use Rattle.csl_picking.specs.PiecesView.{tokens_of}
+use Rattle.layout_picking.specs.Pieces.{tokens}
+use Rattle.layout_picking.specs.PiecesView.{tokens_of}
 use Rattle.csl_writing.specs.Sections.{Section}
 
 -- the formatting, the pieces and the notes are those of the section

@@ -1,21 +1,21 @@
 -- What of a layout is written for a cite.
 use Rattle.std.specs.Prelude.{◌∷◌, List, [], Bool, true, false, Option, None, Some}
 use Rattle.std.specs.Bool.{if◌then◌else◌}
-use Rattle.csl_style_values.specs.Element.{Macro, names_element, Elements, no_elements, element}
-use Rattle.csl_style_values.specs.PlainLook.{no_look, no_options, no_formatting}
-use Rattle.csl_style_values.specs.Style.{BibliographyValue}
-use Rattle.csl_values.specs.declared.formatting.StyleFormatting.{StyleFormatting}
-use Rattle.csl_values.specs.declared.taxonomy.NameVariable.{NameVariable}
-use Rattle.csl_values.specs.declared.taxonomy.Variable.{Variable}
-use Rattle.csl_picking.specs.declared.notes.Form.{Form}
-use Rattle.csl_picking.specs.declared.notes.Notes.{Notes}
-use Rattle.csl_lookup.specs.declared.state.CollapseVerdict.{CollapseVerdict}
-use Rattle.csl_picking.specs.Conditions.{is_repeated}
-use Rattle.csl_picking.specs.Pick.{pick_layout}
-use Rattle.csl_picking.specs.Names.{author_variable}
-use Rattle.csl_picking.specs.Picked.{Picked, nothing}
-use Rattle.csl_picking.specs.Pieces.{Part}
-use Rattle.csl_picking.specs.Env.{Env}
+use Rattle.value_styles.specs.Element.{Macro, names_element, Elements, no_elements, element}
+use Rattle.value_styles.specs.PlainLook.{no_look, no_options, no_formatting}
+use Rattle.value_styles.specs.Style.{BibliographyValue}
+use Rattle.value_sources.specs.declared.formatting.StyleFormatting.{StyleFormatting}
+use Rattle.value_sources.specs.declared.taxonomy.NameVariable.{NameVariable}
+use Rattle.value_sources.specs.declared.taxonomy.Variable.{Variable}
+use Rattle.layout_picking.specs.declared.notes.Form.{Form}
+use Rattle.layout_picking.specs.declared.notes.Notes.{Notes}
+use Rattle.driver_lookup.specs.declared.state.CollapseVerdict.{CollapseVerdict}
+use Rattle.layout_picking.specs.Conditions.{is_repeated}
+use Rattle.layout_picking.specs.Pick.{pick_layout}
+use Rattle.layout_picking.specs.Names.{author_variable}
+use Rattle.layout_picking.specs.Picked.{Picked, nothing}
+use Rattle.layout_picking.specs.Pieces.{Part}
+use Rattle.layout_picking.specs.Env.{Env}
 use Rattle.csl_writing.specs.Subject.{Subject, env, as_different}
 
 -- what is picked, and the formatting in which it is written

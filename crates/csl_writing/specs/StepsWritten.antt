@@ -1,14 +1,14 @@
 -- What steps of writing make of what is written, and what is written of a plan.
 use Rattle.std.specs.Prelude.{◌≡◌, ◌∷◌, List, [], length, unwrap_or}
-use Rattle.csl_trees.specs.Child.{Child}
-use Rattle.csl_values.specs.declared.formatting.StyleFormatting.{StyleFormatting}
-use Rattle.csl_picking.specs.declared.notes.Notes.{Notes}
-use Rattle.csl_lookup.specs.Lookup.{Source, Lookup, lookup}
-use Rattle.csl_picking.specs.Pieces.{Part}
+use Rattle.value_trees.specs.Child.{Child}
+use Rattle.value_sources.specs.declared.formatting.StyleFormatting.{StyleFormatting}
+use Rattle.layout_picking.specs.declared.notes.Notes.{Notes}
+use Rattle.driver_lookup.specs.Lookup.{Source, Lookup, lookup}
+use Rattle.layout_picking.specs.Pieces.{Part}
 use Rattle.csl_writing.specs.Plans.{PlanStep, section_step, text_step, space_step, Plan}
-use Rattle.csl_context.specs.Wording.{pushed}
+use Rattle.layout_context.specs.Wording.{pushed}
 use Rattle.csl_writing.specs.PartsWritten.{parts_written}
-use Rattle.csl_context.specs.WritingState.{State, begun, formatted, unformatted, with_space, flushed}
+use Rattle.layout_context.specs.WritingState.{State, begun, formatted, unformatted, with_space, flushed}
 
 -- parts in a formatting, which holds for them alone
 abbrev pub section_written : Lookup → StyleFormatting → List Part → State → State

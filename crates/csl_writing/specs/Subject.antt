@@ -1,13 +1,13 @@
 -- What is rendered: a cite of an entry, in a style with its locales.
 use Rattle.std.specs.Prelude.{ℕ, List, Bool, Option, None, Some, option_map, is_some, ◌&&◌}
-use Rattle.csl_values.specs.Answers.{Answers}
-use Rattle.csl_style_values.specs.Element.{NameOptions}
-use Rattle.csl_picking.specs.declared.notes.Form.{Form}
-use Rattle.csl_lookup.specs.declared.state.IbidState.{IbidState}
-use Rattle.csl_lookup.specs.Lookup.{Source, lookup}
-use Rattle.csl_lookup.specs.Properties.{Payload, text_payload, own_payload, LocatorValue, Properties}
-use Rattle.csl_picking.specs.Env.{CiteLocator, ReadProperties, Env, env_for, suffix_of}
-use Rattle.csl_styles.specs.SuffixText.{explicit_suffix}
+use Rattle.value_sources.specs.Answers.{Answers}
+use Rattle.value_styles.specs.Element.{NameOptions}
+use Rattle.layout_picking.specs.declared.notes.Form.{Form}
+use Rattle.driver_lookup.specs.declared.state.IbidState.{IbidState}
+use Rattle.driver_lookup.specs.Lookup.{Source, lookup}
+use Rattle.driver_lookup.specs.Properties.{Payload, text_payload, own_payload, LocatorValue, Properties}
+use Rattle.layout_picking.specs.Env.{CiteLocator, ReadProperties, Env, env_for, suffix_of}
+use Rattle.driver_styles.specs.SuffixText.{explicit_suffix}
 
 pub record Subject : Type 0 where
   pub source : Source

@@ -1,8 +1,8 @@
 -- The plain data that what is rendered stands for.
-use Rattle.csl_values.specs.Answers.{Answers}
+use Rattle.value_sources.specs.Answers.{Answers}
 use Rattle.csl_writing.specs.declared.subject.Subject as declared
-use Rattle.csl_picking.specs.InputView.{cite_facts}
-use Rattle.csl_lookup.specs.SourceView.{source_view}
+use Rattle.layout_picking.specs.InputView.{cite_facts}
+use Rattle.driver_lookup.specs.SourceView.{source_view}
 use Rattle.csl_writing.specs.Subject.{Subject}
 
 abbrev pub subject_view : {T : Type 0} → (T → Answers) → declared.Subject T → Subject

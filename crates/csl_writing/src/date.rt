@@ -1,15 +1,15 @@
 //! The date text: the year of an entry alone.
 ghost use Rattle.std.specs.Prelude.{◌≡◌, IfOk, OnOk, option_map};
 ghost use Rattle.csl_writing.specs.DateText as dated;
-ghost use Rattle.csl_lookup.specs.SourceView.{source_view};
+ghost use Rattle.driver_lookup.specs.SourceView.{source_view};
 
 use csl_base::elem::{ElemChild, ElemChildren};
 use csl_base::entry::{Date, EntryLike};
 use csl_base::formatting::{Formatted, Formatting};
 use csl_base::taxonomy::{DateVariable, OtherTerm, Term, TermForm};
 use csl_base::text::Text;
-use csl_lookup::lookup::StyleLocales;
-use csl_lookup::year::{letters_of_suffix, year_in_words};
+use driver_lookup::lookup::StyleLocales;
+use driver_lookup::year::{letters_of_suffix, year_in_words};
 use std::alloc::{AllocError, Global};
 
 // The first date that the entry has, of those that stand for it.

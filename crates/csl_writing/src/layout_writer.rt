@@ -4,9 +4,9 @@ use crate::lookup::StyleContext;
 use crate::spare::Spare;
 use csl_base::elem::ElemChildren;
 use csl_base::entry::EntryLike;
-use csl_writers::cite::Cite;
-use csl_writers::task::{CiteTask, DateTask, ItemTask};
-use csl_writers::writer::CiteWriter;
+use driver_writers::cite::Cite;
+use driver_writers::task::{CiteTask, DateTask, ItemTask};
+use driver_writers::writer::CiteWriter;
 use std::alloc::{AllocError, Global};
 
 /// Writes cites, items of the bibliography and dates by the layouts of their styles. It keeps the

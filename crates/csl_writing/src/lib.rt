@@ -5,10 +5,10 @@
 //! written.
 #![tactic(auto)]
 
-pub use csl_context::{context, token, writing};
-pub use csl_lookup::{apart, brackets, laws, locator, means, properties, purpose, state, year};
-pub use csl_styles::{prepared, terms};
-pub use csl_writers::{cite, counter};
+pub use driver_lookup::{apart, brackets, laws, locator, means, properties, purpose, state, year};
+pub use driver_styles::{prepared, terms};
+pub use driver_writers::{cite, counter};
+pub use layout_context::{context, token, writing};
 
 mod date;
 mod first_field;

@@ -1,23 +1,23 @@
 //! A style with its locales: what a cite is written in.
 ghost use Rattle.std.specs.Prelude.{◌≡◌, map, option_map, IfOk};
-ghost use Rattle.csl_style_values.specs.ElementView.{options_view};
-ghost use Rattle.csl_style_values.specs.StyleView.{code_view, locale_view, style_view};
-ghost use Rattle.csl_lookup.specs.FirstAnswer.{Gives, FirstAnswer};
-ghost use Rattle.csl_lookup.specs.Lookup as found;
-ghost use Rattle.csl_lookup.specs.SourceView.{source_view};
-ghost use Rattle.csl_styles.specs.PreparedView.{prepared_view};
-ghost use Rattle.csl_styles.specs.TablesView.{locales_of};
-ghost use Rattle.csl_context.specs.WritingState.{state, begun};
+ghost use Rattle.value_styles.specs.ElementView.{options_view};
+ghost use Rattle.value_styles.specs.StyleView.{code_view, locale_view, style_view};
+ghost use Rattle.driver_lookup.specs.FirstAnswer.{Gives, FirstAnswer};
+ghost use Rattle.driver_lookup.specs.Lookup as found;
+ghost use Rattle.driver_lookup.specs.SourceView.{source_view};
+ghost use Rattle.driver_styles.specs.PreparedView.{prepared_view};
+ghost use Rattle.driver_styles.specs.TablesView.{locales_of};
+ghost use Rattle.layout_context.specs.WritingState.{state, begun};
 ghost use Rattle.csl_writing.specs.ContextSource.{context_source};
 
 use csl_base::element::InheritableNameOptions;
 use csl_base::locale::{Locale, LocaleCode};
 use csl_base::style::IndependentStyle;
-use csl_context::context::{Context, begin_cite};
-use csl_lookup::lookup::StyleLocales;
-use csl_lookup::properties::CiteProperties;
-use csl_styles::prepared::PreparedStyle;
-use csl_styles::terms::TermTables;
+use driver_lookup::lookup::StyleLocales;
+use driver_lookup::properties::CiteProperties;
+use driver_styles::prepared::PreparedStyle;
+use driver_styles::terms::TermTables;
+use layout_context::context::{Context, begin_cite};
 use std::alloc::{AllocError, Global};
 
 /// A style, with the locales that it is written in.

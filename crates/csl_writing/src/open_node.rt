@@ -1,10 +1,10 @@
 //! A node whose parts are being written.
 ghost use Rattle.std.specs.Prelude.{◌≡◌, ◌+◌, length};
-ghost use Rattle.csl_picking.specs.PiecesView.{node_view};
-ghost use Rattle.csl_context.specs.Steps.{term_text};
+ghost use Rattle.layout_picking.specs.PiecesView.{node_view};
+ghost use Rattle.layout_context.specs.Steps.{term_text};
 
-use csl_context::token::DisplayLoc;
-use csl_picking::pieces::Node;
+use layout_context::token::DisplayLoc;
+use layout_picking::pieces::Node;
 
 /// A node whose parts are being written, and the two frames that it opened.
 #[derive(Drop)]

@@ -12,12 +12,12 @@ ghost use Rattle.std.specs.Prelude.{
   false,
 };
 ghost use Rattle.std.specs.Fmt.{decimal};
-ghost use Rattle.csl_lookup.specs.SourceView.{lookup_view};
-ghost use Rattle.csl_picking.specs.Pieces.{Part, tokens};
-ghost use Rattle.csl_picking.specs.PiecesView.{leaf_view, node_view, token_of, tokens_of};
-ghost use Rattle.csl_context.specs.Steps.{term_text};
-ghost use Rattle.csl_context.specs.WritingState.{state};
-ghost use Rattle.csl_context.specs.Wording.{
+ghost use Rattle.driver_lookup.specs.SourceView.{lookup_view};
+ghost use Rattle.layout_picking.specs.Pieces.{Part, tokens};
+ghost use Rattle.layout_picking.specs.PiecesView.{leaf_view, node_view, token_of, tokens_of};
+ghost use Rattle.layout_context.specs.Steps.{term_text};
+ghost use Rattle.layout_context.specs.WritingState.{state};
+ghost use Rattle.layout_context.specs.Wording.{
   quotes_opened,
   quotes_closed,
   pulling_if_asked,
@@ -46,16 +46,16 @@ ghost use Rattle.csl_writing.specs.OpenNodes.{open_view, open_views, IsNested, r
 use crate::open_node::OpenNode;
 use csl_base::entry::ChunkedString;
 use csl_base::text::Text;
-use csl_context::token::DisplayLoc;
-use csl_context::wording::{
+use driver_lookup::lookup::StyleLocales;
+use driver_lookup::year::{letters_of_suffix, year_in_words};
+use layout_context::token::DisplayLoc;
+use layout_context::wording::{
     allocator, apply_suffix, begin_prefix, joined_values, may_pull_punctuation, may_strip_periods,
     pop_quotes, push_chunked, push_link, push_quotes, push_str, push_transparent,
     stop_stripping_periods,
 };
-use csl_context::writing::WritingContext;
-use csl_lookup::lookup::StyleLocales;
-use csl_lookup::year::{letters_of_suffix, year_in_words};
-use csl_picking::pieces::{Leaf, Node, Piece};
+use layout_context::writing::WritingContext;
+use layout_picking::pieces::{Leaf, Node, Piece};
 use std::alloc::{AllocError, Global};
 use std::fmt::Write;
 

@@ -1,3 +1,3 @@
 //! Laws of what layouts pick.
-pub use csl_picking::picking::macros_unfold;
-pub use csl_styles::suffix_text::suffixes_unfold;
+pub use driver_styles::suffix_text::suffixes_unfold;
+pub use layout_picking::picking::macros_unfold;

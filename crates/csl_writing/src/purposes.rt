@@ -1,28 +1,28 @@
 //! A cite by what it is written for.
 ghost use Rattle.std.specs.Prelude.{◌≡◌, IfOk, OnOk, OnErr, length};
-ghost use Rattle.csl_style_values.specs.ElementView.{text_view};
-ghost use Rattle.csl_style_values.specs.StyleView.{layout_view, style_view};
-ghost use Rattle.csl_picking.specs.Notes.{first_notes};
+ghost use Rattle.value_styles.specs.ElementView.{text_view};
+ghost use Rattle.value_styles.specs.StyleView.{layout_view, style_view};
+ghost use Rattle.layout_picking.specs.Notes.{first_notes};
 ghost use Rattle.csl_writing.specs.Plans as plans;
 ghost use Rattle.csl_writing.specs.SectionView.{IsSection};
 ghost use Rattle.csl_writing.specs.Sections as sections;
-ghost use Rattle.csl_lookup.specs.SourceView.{lookup_view};
+ghost use Rattle.driver_lookup.specs.SourceView.{lookup_view};
 ghost use Rattle.csl_writing.specs.StepsWritten.{IsCarriedOut, IsWritten};
 ghost use Rattle.csl_writing.specs.SubjectView.{subject_view};
-ghost use Rattle.csl_context.specs.WritingState.{state};
+ghost use Rattle.layout_context.specs.WritingState.{state};
 
 use crate::parts::write_pieces;
 use crate::section::{Section, first_notes, names_alone};
 use crate::subject::Subject;
 use csl_base::entry::EntryLike;
 use csl_base::style::{CitationFormat, IndependentStyle, Layout, StyleCategory};
-use csl_context::wording::push_str;
-use csl_context::writing::WritingContext;
-use csl_lookup::lookup::StyleLocales;
-use csl_lookup::purpose::CitePurpose;
-use csl_lookup::state::CollapseVerdict;
-use csl_picking::held::Picking;
-use csl_picking::notes::{Form, Notes};
+use driver_lookup::lookup::StyleLocales;
+use driver_lookup::purpose::CitePurpose;
+use driver_lookup::state::CollapseVerdict;
+use layout_context::wording::push_str;
+use layout_context::writing::WritingContext;
+use layout_picking::held::Picking;
+use layout_picking::notes::{Form, Notes};
 use std::alloc::{AllocError, Global};
 
 /// Writes a section in its formatting, and hands its notes on.

@@ -1,15 +1,15 @@
 //! Rendering of cites and of items of the bibliography.
 ghost use Rattle.std.specs.Prelude.{◌≡◌, ◌&&◌, IfOk, None, is_some};
-ghost use Rattle.csl_style_values.specs.Ring.{HasNoRing};
-ghost use Rattle.csl_style_values.specs.StyleView.{bibliography_view, style_view};
+ghost use Rattle.value_styles.specs.Ring.{HasNoRing};
+ghost use Rattle.value_styles.specs.StyleView.{bibliography_view, style_view};
 ghost use Rattle.csl_writing.specs.CiteText as rendered;
-ghost use Rattle.csl_writers.specs.Counted.{counted};
-ghost use Rattle.csl_lookup.specs.PropertiesView.{properties_view};
+ghost use Rattle.driver_writers.specs.Counted.{counted};
+ghost use Rattle.driver_lookup.specs.PropertiesView.{properties_view};
 ghost use Rattle.csl_writing.specs.ContextSource.{context_source};
 ghost use Rattle.csl_writing.specs.Subject as plain;
 ghost use Rattle.csl_writing.specs.SubjectView.{subject_view};
-ghost use Rattle.csl_lookup.specs.Means.{suffix_told};
-ghost use Rattle.csl_styles.specs.SuffixText as suffixes;
+ghost use Rattle.driver_lookup.specs.Means.{suffix_told};
+ghost use Rattle.driver_styles.specs.SuffixText as suffixes;
 
 use crate::date::date_text;
 use crate::first_field::put_first_field_first;
@@ -22,15 +22,15 @@ use csl_base::elem::ElemChildren;
 use csl_base::entry::EntryLike;
 use csl_base::locale::LocaleCode;
 use csl_base::style::{Bibliography, IndependentStyle};
-use csl_context::wording::{apply_suffix, begin_prefix};
-use csl_context::writing::WritingContext;
-use csl_lookup::means::{Means, suffix_told};
-use csl_lookup::properties::CiteProperties;
-use csl_lookup::purpose::CitePurpose;
-use csl_lookup::state::{CollapseVerdict, DisambiguateState};
-use csl_picking::notes::Form;
-use csl_writers::cite::Cite;
-use csl_writers::counter::Renders;
+use driver_lookup::means::{Means, suffix_told};
+use driver_lookup::properties::CiteProperties;
+use driver_lookup::purpose::CitePurpose;
+use driver_lookup::state::{CollapseVerdict, DisambiguateState};
+use driver_writers::cite::Cite;
+use driver_writers::counter::Renders;
+use layout_context::wording::{apply_suffix, begin_prefix};
+use layout_context::writing::WritingContext;
+use layout_picking::notes::Form;
 use std::alloc::{AllocError, Global};
 
 /// Whether the second fields of the bibliography are aligned.

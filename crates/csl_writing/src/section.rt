@@ -1,10 +1,10 @@
 //! What of a layout is written for a cite.
 ghost use Rattle.std.specs.Prelude.{◌≡◌, IfOk};
-ghost use Rattle.csl_style_values.specs.ElementView.{elements_view};
-ghost use Rattle.csl_style_values.specs.StyleView.{bibliography_view};
-ghost use Rattle.csl_picking.specs.Conditions.{is_repeated};
-ghost use Rattle.csl_picking.specs.InputView.{env_of, macros_in};
-ghost use Rattle.csl_picking.specs.Notes.{first_notes};
+ghost use Rattle.value_styles.specs.ElementView.{elements_view};
+ghost use Rattle.value_styles.specs.StyleView.{bibliography_view};
+ghost use Rattle.layout_picking.specs.Conditions.{is_repeated};
+ghost use Rattle.layout_picking.specs.InputView.{env_of, macros_in};
+ghost use Rattle.layout_picking.specs.Notes.{first_notes};
 ghost use Rattle.csl_writing.specs.SectionView.{IsSection};
 ghost use Rattle.csl_writing.specs.Sections as sections;
 ghost use Rattle.csl_writing.specs.SubjectView.{subject_view};
@@ -15,12 +15,12 @@ use csl_base::entry::EntryLike;
 use csl_base::formatting::StyleFormatting;
 use csl_base::style::Bibliography;
 use csl_base::taxonomy::{NameVariable, Variable};
-use csl_lookup::state::{CollapseVerdict, IbidState, IdentifierUsage};
-use csl_picking::held::Picking;
-use csl_picking::input::Input;
-use csl_picking::names::author_variable;
-use csl_picking::notes::{Called, Form, Notes, Suppressed};
-use csl_picking::picking::pick_layout;
+use driver_lookup::state::{CollapseVerdict, IbidState, IdentifierUsage};
+use layout_picking::held::Picking;
+use layout_picking::input::Input;
+use layout_picking::names::author_variable;
+use layout_picking::notes::{Called, Form, Notes, Suppressed};
+use layout_picking::picking::pick_layout;
 use std::alloc::{AllocError, Global};
 
 // For how many pieces there is memory at first: those of two names and a year in a group.

@@ -1,5 +1,5 @@
 //! Memory that a rendering leaves for the next one.
-use csl_context::spare_memory::SpareMemory;
+use layout_context::spare_memory::SpareMemory;
 use std::alloc::{AllocError, Global};
 
 /// What a rendering took memory for, kept for the next one.

@@ -1,21 +1,21 @@
 //! What is rendered: a cite of an entry, in a style with its locales.
 ghost use Rattle.std.specs.Prelude.{◌≡◌, IfOk};
-ghost use Rattle.csl_style_values.specs.ElementView.{options_view};
-ghost use Rattle.csl_style_values.specs.StyleView.{style_view};
-ghost use Rattle.csl_picking.specs.InputView as input;
-ghost use Rattle.csl_lookup.specs.PropertiesView.{locator_view, properties_view};
-ghost use Rattle.csl_lookup.specs.SourceView.{source_view};
+ghost use Rattle.value_styles.specs.ElementView.{options_view};
+ghost use Rattle.value_styles.specs.StyleView.{style_view};
+ghost use Rattle.layout_picking.specs.InputView as input;
+ghost use Rattle.driver_lookup.specs.PropertiesView.{locator_view, properties_view};
+ghost use Rattle.driver_lookup.specs.SourceView.{source_view};
 ghost use Rattle.csl_writing.specs.Subject as plain;
 ghost use Rattle.csl_writing.specs.SubjectView.{subject_view};
 
 use csl_base::element::InheritableNameOptions;
 use csl_base::entry::EntryLike;
-use csl_lookup::locator::{LocatorPayload, SpecificLocator};
-use csl_lookup::lookup::StyleLocales;
-use csl_lookup::properties::CiteProperties;
-use csl_lookup::state::IbidState;
-use csl_picking::input::{CiteFacts, Input, LocatorFacts, Setting};
-use csl_picking::notes::Form;
+use driver_lookup::locator::{LocatorPayload, SpecificLocator};
+use driver_lookup::lookup::StyleLocales;
+use driver_lookup::properties::CiteProperties;
+use driver_lookup::state::IbidState;
+use layout_picking::input::{CiteFacts, Input, LocatorFacts, Setting};
+use layout_picking::notes::Form;
 
 fn locator_facts<'a, P>(locator: &'a SpecificLocator<'_, P>) -> LocatorFacts<'a>
     ensures { input.locator_facts result ≡ plain.locator_read (locator_view locator.now) }

@@ -1,13 +1,13 @@
 -- What a book answers; and that equal books answer alike, since equal books are one value.
 use Rattle.std.specs.Prelude.{◌≡◌, true, List, [], Option, Some, None}
 use Rattle.std.proofs.Common.{ap}
-use Rattle.csl_values.specs.Answers.{Answers}
-use Rattle.csl_values.specs.EqualEntries.{persons_find, dates_find}
-use Rattle.csl_values.specs.Finds.{both, lists_find, texts_find}
-use Rattle.csl_values.specs.declared.entry.Date.{Date}
-use Rattle.csl_values.specs.declared.entry.Person.{Person}
-use Rattle.csl_values.specs.declared.taxonomy.DateVariable.{DateVariable}
-use Rattle.csl_values.specs.declared.taxonomy.NameVariable.{NameVariable}
+use Rattle.value_sources.specs.Answers.{Answers}
+use Rattle.value_sources.specs.EqualEntries.{persons_find, dates_find}
+use Rattle.value_sources.specs.Finds.{both, lists_find, texts_find}
+use Rattle.value_sources.specs.declared.entry.Date.{Date}
+use Rattle.value_sources.specs.declared.entry.Person.{Person}
+use Rattle.value_sources.specs.declared.taxonomy.DateVariable.{DateVariable}
+use Rattle.value_sources.specs.declared.taxonomy.NameVariable.{NameVariable}
 use Rattle.first_citation.specs.contracts.book.BookPartialEq.TheImpl as book_eq
 use Rattle.first_citation.specs.declared.book.Book.{Book}
 

@@ -1,24 +1,25 @@
 //! Files are checked: styles, locale files, references, citations and documents.
-use crate::commands::citations_in;
+use crate::citations::{citation_warnings, citations_in};
 use crate::documents::document_fault;
-use crate::entries::converted;
-use crate::error::{CommandError, LIMIT_EXCEEDED};
-use crate::files::{bytes_of, bytes_refused};
-use crate::items::show_item_warnings;
-use crate::json_causes::behind_mark;
-use crate::references::references_in;
-use crate::reports::{limit_exceeded, refused, show_style_warnings, show_warning};
-use cite_command::one_line::OneLine;
+use crate::findings::{CheckedFile, Content, print_list, push_checked, show_checked};
 use cite_host::error::AnswerError;
 use cite_host::limits::check_style;
 use cite_limits::budget::USUAL_PART;
-use fault_lines::faults::line_faults;
+use program_command::arguments::{CheckFormat, CheckOptions};
+use program_faults::faults::{style_faults, style_warnings};
+use program_faults::finding::Finding;
+use program_files::entries::converted;
+use program_files::error::{CommandError, LIMIT_EXCEEDED};
+use program_files::files::{bytes_of, bytes_refused};
+use program_files::items::item_warnings;
+use program_files::json_causes::behind_mark;
+use program_files::references::references_in;
+use program_files::reports::{limit_exceeded, refused, refused_for};
 use serde_json::Value;
-use std::alloc::Global;
-use std::io;
+use std::alloc::{AllocError, Global};
 use std::process::ExitCode;
 use std::rt::Files;
-use style_faults::error::StyleError;
+use style_elements::error::StyleError;
 use style_file::style::StyleFile;
 use style_reader::file::{CslFile, read_file};
 
@@ -43,50 +44,103 @@ enum FileKind {
 /// `Output`; `OutOfMemory`.
 pub(crate) fn check_all(
     rt: &(impl Files + Input + Print + Eprint + AllocGlobal),
-    paths: &[String],
+    options: &CheckOptions,
 ) -> Result<ExitCode, CommandError> {
-    let mut is_wrong = false;
-    let mut is_unread = false;
-    let mut is_excessive = false;
-    for path in paths {
-        match check_file(rt, path.as_str()) {
-            Ok(()) => {}
-            Err(error) if error.ends_all() => return Err(error),
-            Err(error) => {
-                let status = error.status();
-                is_wrong = is_wrong || status == 2;
-                is_unread = is_unread || status == 1;
-                is_excessive = is_excessive || status == LIMIT_EXCEEDED;
-                let _ = eprintln!(rt; "{error}");
-            }
+    let mut worst = WorstFile::default();
+    let mut values = Vec::new(rt.alloc());
+    for path in &options.files {
+        let path = path.as_str();
+        let checked = check_file(rt, path)?;
+        worst.add(checked.status(options.fails_on_warnings));
+        match options.format {
+            CheckFormat::Text => show_checked(rt, path, &checked)?,
+            CheckFormat::Json => push_checked(rt.alloc(), &mut values, path, &checked)?,
         }
     }
-    Ok(if is_unread {
-        ExitCode::from(1)
-    } else if is_wrong {
-        ExitCode::from(2)
-    } else if is_excessive {
-        ExitCode::from(LIMIT_EXCEEDED)
-    } else {
-        ExitCode::SUCCESS
-    })
+    if options.format == CheckFormat::Json {
+        print_list(rt, values)?;
+    }
+    Ok(worst.code())
 }
 
-/// Prints what a file is, and what is odd in it.
+/// How badly off the worst of some files is.
+#[derive(Clone, Copy, Default)]
+struct WorstFile {
+    is_unread: bool,
+    is_wrong: bool,
+    is_excessive: bool,
+}
+
+impl WorstFile {
+    /// Adds a file by its exit status.
+    fn add(&mut self, status: u8) {
+        self.is_unread = self.is_unread || status == 1;
+        self.is_wrong = self.is_wrong || status == 2;
+        self.is_excessive = self.is_excessive || status == LIMIT_EXCEEDED;
+    }
+
+    /// The exit status of all files.
+    fn code(self) -> ExitCode {
+        if self.is_unread {
+            ExitCode::from(1)
+        } else if self.is_wrong {
+            ExitCode::from(2)
+        } else if self.is_excessive {
+            ExitCode::from(LIMIT_EXCEEDED)
+        } else {
+            ExitCode::SUCCESS
+        }
+    }
+}
+
+/// What comes of the check of a file.
+///
+/// # Errors
+///
+/// `OutOfMemory`.
 fn check_file(
-    rt: &(impl Files + Input + Print + Eprint + AllocGlobal),
+    rt: &(impl Files + Input + AllocGlobal),
     path: &str,
-) -> Result<(), CommandError> {
+) -> Result<CheckedFile, CommandError> {
+    let mut warnings = Vec::new(rt.alloc());
+    match content_of(rt, path, &mut warnings) {
+        Ok(content) => Ok(CheckedFile {
+            warnings,
+            outcome: Ok(content),
+        }),
+        Err(error) if error.ends_all() => Err(error),
+        Err(error) => Ok(CheckedFile {
+            warnings,
+            outcome: Err(error),
+        }),
+    }
+}
+
+/// What a file is. What is odd in it is added to the warnings.
+fn content_of(
+    rt: &(impl Files + Input + AllocGlobal),
+    path: &str,
+    warnings: &mut Vec<Finding>,
+) -> Result<Content, CommandError> {
+    let alloc = rt.alloc();
     let bytes = bytes_of(rt, path)?;
-    if let Some(json) = converted(rt, path, None, &bytes)? {
-        return check_references(rt, path, json.as_str().as_bytes());
+    if let Some(converted) = converted(alloc, path, None, &bytes)? {
+        add_all(warnings, converted.warnings)?;
+        return references(alloc, path, converted.json.as_str().as_bytes(), warnings);
     }
-    match FileKind::of_bytes(rt.alloc(), &bytes) {
-        FileKind::Csl => check_csl(rt, path, &bytes),
-        FileKind::References => check_references(rt, path, &bytes),
-        FileKind::Citations => check_citations(rt, path, &bytes),
-        FileKind::Document => check_document(rt, path, &bytes),
+    match FileKind::of_bytes(alloc, &bytes) {
+        FileKind::Csl => csl(alloc, path, &bytes, warnings),
+        FileKind::References => references(alloc, path, &bytes, warnings),
+        FileKind::Citations => citations(alloc, path, &bytes, warnings),
+        FileKind::Document => document(alloc, path, &bytes),
     }
+}
+
+fn add_all(warnings: &mut Vec<Finding>, others: Vec<Finding>) -> Result<(), AllocError> {
+    for warning in others {
+        warnings.push(warning)?;
+    }
+    Ok(())
 }
 
 impl FileKind {
@@ -119,32 +173,51 @@ fn has_items(alloc: Global, bytes: &[u8]) -> bool {
     }
 }
 
-/// Prints which style or locale a file is.
-fn check_csl(
-    rt: &(impl Print + Eprint + AllocGlobal),
+/// Which style or locale a file of these bytes is.
+fn csl(
+    alloc: Global,
     path: &str,
     bytes: &[u8],
-) -> Result<(), CommandError> {
+    warnings: &mut Vec<Finding>,
+) -> Result<Content, CommandError> {
     match str::from_utf8(bytes) {
-        Ok(text) => check_csl_text(rt, path, text),
-        Err(_) => Err(bytes_refused(rt.alloc(), path, bytes)?),
+        Ok(text) => csl_of_text(alloc, path, text, warnings),
+        Err(_) => Err(bytes_refused(alloc, path, bytes)?),
     }
 }
 
-fn check_csl_text(
-    rt: &(impl Print + Eprint + AllocGlobal),
+fn csl_of_text(
+    alloc: Global,
     path: &str,
     text: &str,
-) -> Result<(), CommandError> {
-    match read_file(rt.alloc(), text) {
-        Ok((file, warnings)) => {
-            show_style_warnings(rt, path, &warnings)?;
-            check_limits(rt.alloc(), path, text, &file)?;
-            Ok(show_file(rt, path, &file)?)
+    warnings: &mut Vec<Finding>,
+) -> Result<Content, CommandError> {
+    match read_file(alloc, text) {
+        Ok((file, odd)) => {
+            add_all(warnings, style_warnings(alloc, &odd)?)?;
+            csl_content(alloc, path, text, &file)
         }
         Err(StyleError::OutOfMemory) => Err(CommandError::OutOfMemory),
-        Err(_) => Err(CommandError::Faults(line_faults(rt.alloc(), path, text)?)),
+        Err(_) => Err(csl_refused(alloc, path, text)?),
     }
+}
+
+fn csl_content(
+    alloc: Global,
+    path: &str,
+    text: &str,
+    file: &CslFile,
+) -> Result<Content, CommandError> {
+    check_limits(alloc, path, text, file)?;
+    Ok(Content::of_csl(file)?)
+}
+
+/// What is wrong with a style file or a locale file of this text.
+fn csl_refused(alloc: Global, path: &str, text: &str) -> Result<CommandError, AllocError> {
+    Ok(CommandError::Refused {
+        path: String::from_str(alloc, path)?,
+        faults: style_faults(alloc, text)?,
+    })
 }
 
 /// Refuses a style that takes more than it may whatever the items have.
@@ -162,68 +235,34 @@ fn check_limits(alloc: Global, path: &str, text: &str, file: &CslFile) -> Result
     }
 }
 
-/// Prints what a style file or a locale file is.
-fn show_file(rt: &impl Print, path: &str, file: &CslFile) -> io::Result<()> {
-    let path = OneLine(path);
-    match file {
-        CslFile::Style(StyleFile::Independent(style)) => {
-            let title = OneLine(style.info.title.as_str());
-            let id = OneLine(style.info.id.as_str());
-            println!(rt; "{path}: independent style {title} ({id})")
-        }
-        CslFile::Style(StyleFile::Dependent(style)) => {
-            let parent = OneLine(style.parent.as_str());
-            println!(rt; "{path}: dependent style of {parent}")
-        }
-        CslFile::Locale(locale) => {
-            let language = OneLine(locale.language.as_str());
-            println!(rt; "{path}: locale {language}")
-        }
-    }
-}
-
-/// Prints how many references there are in a file.
-fn check_references(
-    rt: &(impl Print + Eprint + AllocGlobal),
+/// How many references there are in a file of these bytes.
+fn references(
+    alloc: Global,
     path: &str,
     bytes: &[u8],
-) -> Result<(), CommandError> {
-    let read = references_in(rt.alloc(), path, bytes, false)?;
-    show_item_warnings(rt, path, bytes, &read.warnings)?;
-    let path = OneLine(path);
-    match read.references.len() {
-        1 => println!(rt; "{path}: 1 reference")?,
-        count => println!(rt; "{path}: {count} references")?,
-    }
-    Ok(())
+    warnings: &mut Vec<Finding>,
+) -> Result<Content, CommandError> {
+    let read = references_in(alloc, path, bytes, false)?;
+    add_all(warnings, item_warnings(alloc, bytes, &read.warnings)?)?;
+    Ok(Content::References(read.references.len()))
 }
 
-/// Prints how many citations there are in a file.
-fn check_citations(
-    rt: &(impl Print + Eprint + AllocGlobal),
+/// How many citations there are in a file of these bytes.
+fn citations(
+    alloc: Global,
     path: &str,
     bytes: &[u8],
-) -> Result<(), CommandError> {
-    let read = citations_in(rt.alloc(), path, bytes)?;
-    for warning in &read.warnings {
-        show_warning(rt, path, warning)?;
-    }
-    let path = OneLine(path);
-    match read.citations.len() {
-        1 => println!(rt; "{path}: 1 citation")?,
-        count => println!(rt; "{path}: {count} citations")?,
-    }
-    Ok(())
+    warnings: &mut Vec<Finding>,
+) -> Result<Content, CommandError> {
+    let read = citations_in(alloc, path, bytes)?;
+    add_all(warnings, citation_warnings(alloc, &read.warnings)?)?;
+    Ok(Content::Citations(read.citations.len()))
 }
 
-/// Prints that a file is a document.
-fn check_document(
-    rt: &(impl Print + AllocGlobal),
-    path: &str,
-    bytes: &[u8],
-) -> Result<(), CommandError> {
-    match document_fault(rt.alloc(), bytes)? {
-        None => Ok(println!(rt; "{}: document", OneLine(path))?),
-        Some(why) => Err(refused(rt.alloc(), path, &why)?),
+/// Whether a file of these bytes is a document.
+fn document(alloc: Global, path: &str, bytes: &[u8]) -> Result<Content, CommandError> {
+    match document_fault(alloc, bytes)? {
+        None => Ok(Content::Document),
+        Some(fault) => Err(refused_for(alloc, path, fault)?),
     }
 }

@@ -1,36 +1,34 @@
 //! Citations and bibliographies.
-use crate::abbreviations::told_abbreviations;
-use crate::error::CommandError;
+use crate::citations::{citation_warnings, citations_in};
 use crate::explaining::{citations_by_default, explained_references, print_explained};
-use crate::files::bytes_of;
-use crate::json_causes::{behind_mark, json_refused};
-use crate::locales::locales_of;
-use crate::printing::{Printing, print_bibliography, print_both, print_citations, print_json};
-use crate::references::references_of;
-use crate::reports::{limit_exceeded, refused, show_warning};
-use crate::styles::{FoundStyle, style_of};
-use crate::unknown_ids::{check_ids, warn_of_unknown};
-use cite_command::arguments::{Options, OutputFormat};
 use cite_host::answer::{Answer, Document};
 use cite_host::cites::Citation;
 use cite_host::error::AnswerError;
-use cite_json::fault::CitationsError;
 use cite_json::listing::{citation_of_all, uncited};
 use cite_json::notes::number_notes;
-use cite_json::reading::{ReadCitations, read_citations};
 use cite_json::unknown::with_missing;
 use cite_limits::budget::USUAL_PART;
 use cite_limits::cost::Cost;
 use cite_locale::chain::LocaleChain;
 use cite_walk::abbreviations::Abbreviations;
-use csl_references::reference::References;
-use reference_files::form::{ReferenceForm, form_of};
+use program_command::arguments::{Options, OutputFormat};
+use program_files::abbreviations::told_abbreviations;
+use program_files::error::CommandError;
+use program_files::files::bytes_of;
+use program_files::locales::locales_of;
+use program_files::references::references_of;
+use program_files::reports::{limit_exceeded, refused, show_findings};
+use program_files::styles::{FoundStyle, style_of};
+use program_files::unknown_ids::{check_ids, warn_of_unknown};
+use program_pages::linking::targets_of;
+use program_pages::page::ListLayout;
+use program_pages::printing::{
+    Printing, print_bibliography, print_both, print_citations, print_json,
+};
+use reference_values::reference::References;
 use std::alloc::{AllocError, Global};
 use std::rt::Files;
 use style_file::style::CslStyle;
-
-/// What a file of references is that is named as one of citations.
-const REFERENCES: &str = "these are references, not citations: name them by `--references`";
 
 /// What of an answer is printed.
 #[derive(Clone, Copy, PartialEq, Eq)]
@@ -207,31 +205,8 @@ fn shown_citations(
 ) -> Result<Vec<Citation>, CommandError> {
     let bytes = bytes_of(rt, path)?;
     let read = citations_in(rt.alloc(), path, &bytes)?;
-    for warning in &read.warnings {
-        show_warning(rt, path, warning)?;
-    }
+    show_findings(rt, path, &citation_warnings(rt.alloc(), &read.warnings)?);
     Ok(read.citations)
-}
-
-/// The citations in a file of these bytes, behind a byte order mark or without one.
-///
-/// # Errors
-///
-/// `Refused` where it has none; `OutOfMemory`.
-pub(crate) fn citations_in(
-    alloc: Global,
-    path: &str,
-    bytes: &[u8],
-) -> Result<ReadCitations, CommandError> {
-    let bytes = behind_mark(bytes);
-    match read_citations(alloc, bytes) {
-        Ok(read) => Ok(read),
-        Err(CitationsError::OutOfMemory) => Err(CommandError::OutOfMemory),
-        Err(_) if form_of(None, path, bytes) != ReferenceForm::Json => {
-            Err(refused(alloc, path, &REFERENCES)?)
-        }
-        Err(error) => Err(json_refused(alloc, path, bytes, &error)?),
-    }
 }
 
 fn print_document(
@@ -259,20 +234,47 @@ fn print_in_language<'p>(
     if printed == Printed::Explained {
         return print_explained(rt, options, asked.found, &answer, locale.quote_marks());
     }
-    let printing = Printing {
-        options,
-        style,
-        citations: &asked.cited.citations,
-        language,
-        marks: locale.quote_marks(),
-    };
+    let marks = locale.quote_marks();
     if options.format == OutputFormat::Json {
-        return print_json(rt, &printing, &answer);
+        return print_json(rt, style, &asked.cited.citations, &answer, marks);
     }
+    let targets = asked_targets(rt.alloc(), options, asked.cited)?;
+    let bibliography = style.bibliography.as_ref();
+    let printing = Printing {
+        format: options.format,
+        is_standalone: options.is_standalone,
+        targets: &targets,
+        layout: bibliography.map(|section| ListLayout::of_style(&section.options)),
+        language,
+        marks,
+    };
+    print_in_form(rt, &printing, &answer, printed)
+}
+
+/// Where the cites of each citation lead: to their items, if links are asked for.
+fn asked_targets(
+    alloc: Global,
+    options: &Options,
+    cited: &Cited,
+) -> Result<Vec<Vec<String>>, AllocError> {
+    if options.links_citations {
+        targets_of(alloc, &cited.citations)
+    } else {
+        Ok(Vec::new(alloc))
+    }
+}
+
+/// Prints what is wanted of an answer.
+fn print_in_form(
+    rt: &(impl Print + Eprint + AllocGlobal),
+    printing: &Printing<'_>,
+    answer: &Answer,
+    printed: Printed,
+) -> Result<(), CommandError> {
     match printed {
-        Printed::Citations => print_citations(rt, &printing, &answer),
-        Printed::Bibliography => print_bibliography(rt, &printing, &answer),
-        Printed::Both | Printed::Explained => print_both(rt, &printing, &answer),
+        Printed::Citations => print_citations(rt, printing, answer),
+        Printed::Bibliography => print_bibliography(rt, printing, answer),
+        Printed::Both | Printed::Explained => print_both(rt, printing, answer),
     }
 }
 

@@ -1,15 +1,20 @@
 //! Documents of `cite_run` are answered, and their faults reported.
-use crate::document_error::DocumentError;
-use crate::error::CommandError;
-use crate::files::bytes_of;
-use crate::json_causes::json_cause;
-use crate::reports::{document_refused, refused};
-use cite_command::arguments::{DocumentFormat, DocumentOptions};
-use cite_document::error::RunError;
-use cite_document::faults::print_fault_bytes;
-use cite_document::limits::{LimitError, check_limits};
-use cite_document::running::{print_bytes, print_json_bytes};
-use csl_limits::limits::{Excess, Limits};
+use crate::document_pages::{language_of, targets_of};
+use document_answer::error::RunError;
+use document_answer::faults::print_fault_bytes;
+use document_answer::limits::{LimitError, check_limits};
+use document_answer::running::{answer_bytes, print_bytes, print_json_bytes};
+use driver_assembly::rendered::Rendered;
+use driver_styles::limits::{Excess, Limits};
+use program_command::arguments::{DocumentOptions, OutputFormat};
+use program_faults::finding::{FilePlace, Finding};
+use program_files::document_error::DocumentError;
+use program_files::error::CommandError;
+use program_files::files::bytes_of;
+use program_files::json_causes::{behind_mark, json_cause};
+use program_files::reports::{document_refused, refused, refused_for};
+use program_pages::documents::{answer_of, layout_of, no_marks};
+use program_pages::printing::{Printing, print_whole};
 use serde_json::Value;
 use std::alloc::{AllocError, Global};
 use std::rt::Files;
@@ -27,10 +32,62 @@ pub(crate) fn render(
 ) -> Result<(), CommandError> {
     let bytes = bytes_of(rt, options.document.as_str())?;
     check_layouts(rt.alloc(), options, &bytes)?;
-    match answer_in(rt.alloc(), options.format, &bytes) {
-        Ok(text) => Ok(print!(rt; "{}", text.as_str())?),
-        Err(error) => Err(unanswered(rt.alloc(), options, &bytes, error)?),
+    match options.format {
+        OutputFormat::Text => print_text(rt, options, &bytes, print_bytes(rt.alloc(), &bytes)),
+        OutputFormat::Json => print_text(rt, options, &bytes, json_line(rt.alloc(), &bytes)),
+        OutputFormat::Html | OutputFormat::Markdown | OutputFormat::Latex => {
+            match answer_bytes(rt.alloc(), &bytes) {
+                Ok(rendered) => print_form(rt, options, &bytes, &rendered),
+                Err(error) => Err(unanswered(rt.alloc(), options, &bytes, error)?),
+            }
+        }
     }
+}
+
+/// Prints a text that an answer to a document is.
+fn print_text(
+    rt: &(impl Print + AllocGlobal),
+    options: &DocumentOptions,
+    bytes: &[u8],
+    text: Result<String, RunError>,
+) -> Result<(), CommandError> {
+    match text {
+        Ok(text) => Ok(print!(rt; "{}", text.as_str())?),
+        Err(error) => Err(unanswered(rt.alloc(), options, bytes, error)?),
+    }
+}
+
+/// The answer to a document as a line of JSON.
+fn json_line(alloc: Global, bytes: &[u8]) -> Result<String, RunError> {
+    let mut text = print_json_bytes(alloc, bytes)?;
+    text.push_str("\n")?;
+    Ok(text)
+}
+
+/// Prints the answer to a document as HTML, Markdown or LaTeX. Cites lead to their items only where
+/// there is a bibliography.
+fn print_form(
+    rt: &(impl Print + AllocGlobal),
+    options: &DocumentOptions,
+    bytes: &[u8],
+    rendered: &Rendered,
+) -> Result<(), CommandError> {
+    let text = str::from_utf8(behind_mark(bytes)).unwrap_or("");
+    let document = Value::from_str(rt.alloc(), text).unwrap_or(Value::Null);
+    let mut targets = Vec::new(rt.alloc());
+    if options.links_citations && rendered.bibliography.is_some() {
+        targets = targets_of(rt.alloc(), &document)?;
+    }
+    let answer = answer_of(rt.alloc(), rendered)?;
+    let printing = Printing {
+        format: options.format,
+        is_standalone: options.is_standalone,
+        targets: &targets,
+        layout: rendered.bibliography.as_ref().map(layout_of),
+        language: language_of(&document),
+        marks: no_marks(),
+    };
+    print_whole(rt, &printing, &answer)
 }
 
 /// Whether the layouts of the styles of a document are within the limits of the command.
@@ -65,18 +122,6 @@ fn not_let_through(
     Ok(document_refused(alloc, path, why)?)
 }
 
-/// What is printed of the answer to a document.
-fn answer_in(alloc: Global, format: DocumentFormat, bytes: &[u8]) -> Result<String, RunError> {
-    match format {
-        DocumentFormat::Text => print_bytes(alloc, bytes),
-        DocumentFormat::Json => {
-            let mut text = print_json_bytes(alloc, bytes)?;
-            text.push_str("\n")?;
-            Ok(text)
-        }
-    }
-}
-
 fn unanswered(
     alloc: Global,
     options: &DocumentOptions,
@@ -100,7 +145,7 @@ fn unanswered(
 /// Where bytes are no document.
 fn no_document(alloc: Global, path: &str, bytes: &[u8]) -> Result<CommandError, CommandError> {
     match document_fault(alloc, bytes)? {
-        Some(why) => Ok(refused(alloc, path, &why)?),
+        Some(fault) => Ok(refused_for(alloc, path, fault)?),
         None => Ok(refused(alloc, path, &"no document")?),
     }
 }
@@ -110,7 +155,7 @@ fn no_document(alloc: Global, path: &str, bytes: &[u8]) -> Result<CommandError, 
 /// # Errors
 ///
 /// `OutOfMemory`.
-pub(crate) fn document_fault(alloc: Global, bytes: &[u8]) -> Result<Option<String>, CommandError> {
+pub(crate) fn document_fault(alloc: Global, bytes: &[u8]) -> Result<Option<Finding>, CommandError> {
     let Ok(fault) = print_fault_bytes(alloc, bytes) else {
         return Err(CommandError::OutOfMemory);
     };
@@ -124,14 +169,15 @@ pub(crate) fn document_fault(alloc: Global, bytes: &[u8]) -> Result<Option<Strin
 }
 
 /// A fault of these bytes, which is given as JSON, in the words of faults of references.
-fn in_words(alloc: Global, bytes: &[u8], fault: &Value) -> Result<String, AllocError> {
+fn in_words(alloc: Global, bytes: &[u8], fault: &Value) -> Result<Finding, AllocError> {
     if let Some(cause) = json_cause(alloc, bytes)? {
-        return Ok(cause);
+        return Finding::error(alloc, FilePlace::Whole, &cause);
     }
-    let pointer = text_at(fault, "pointer");
     let found = text_at(fault, "found");
     let wanted = text_at(fault, "wanted");
-    format!(in alloc; "{pointer}: found {found}, wanted {wanted}")
+    let why = format!(in alloc; "found {found}, wanted {wanted}")?;
+    let pointer = String::from_str(alloc, text_at(fault, "pointer"))?;
+    Finding::error(alloc, FilePlace::Pointer(pointer), &why)
 }
 
 /// The text at a key; empty where there is none.

@@ -1,17 +1,17 @@
 //! Which element of a style wrote each text.
-use crate::commands::citations_in;
-use crate::error::CommandError;
-use crate::references::{references_in, references_of};
-use crate::reports::refused;
-use crate::styles::FoundStyle;
-use cite_command::arguments::{Options, OutputFormat};
+use crate::citations::citations_in;
 use cite_host::answer::Answer;
 use cite_host::cites::{Citation, Cite};
 use cite_host::error::AnswerError;
 use cite_program::program::ProgramError;
-use csl_references::reference::References;
-use csl_texts::quotes::QuoteMarks;
-use packaged_styles::works::{CITATIONS, REFERENCES};
+use cite_texts::quotes::QuoteMarks;
+use program_command::arguments::{Options, OutputFormat};
+use program_files::error::CommandError;
+use program_files::references::{references_in, references_of};
+use program_files::reports::refused;
+use program_files::styles::FoundStyle;
+use program_styles::works::{CITATIONS, REFERENCES};
+use reference_values::reference::References;
 use std::alloc::{AllocError, Global};
 use std::rt::Files;
 use write_explained::explained::{ExplainedAnswer, explained};

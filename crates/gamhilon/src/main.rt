@@ -4,34 +4,22 @@
 //! it too (`CommandError::status`). What is odd in a file that is read gets a line there as well.
 #![tactic(auto)]
 
-mod abbreviations;
 mod checking;
+mod citations;
 mod commands;
-mod document_error;
+mod document_pages;
 mod documents;
-mod entries;
-mod error;
 mod explaining;
-mod files;
-mod items;
-mod json_causes;
-mod linking;
-mod locales;
-mod near_styles;
+mod findings;
 mod packaged;
-mod page;
-mod printing;
-mod references;
-mod reports;
 mod sessions;
-mod styles;
-mod unknown_ids;
 
-use cite_command::arguments::Command;
-use cite_command::error::UsageError;
-use cite_command::parsing::command_of;
-use error::CommandError;
-use packaged_styles::sheet::STYLE_SHEET;
+use program_command::arguments::Command;
+use program_command::error::UsageError;
+use program_command::parsing::command_of;
+use program_files::entries;
+use program_files::error::CommandError;
+use program_styles::sheet::STYLE_SHEET;
 use std::process::ExitCode;
 use std::rt::{Env, Files};
 use std::{env, io};
@@ -53,7 +41,7 @@ fn run(
 ) -> Result<ExitCode, CommandError> {
     match command(rt)? {
         Command::Show(text) => print!(rt; "{}", text.as_str())?,
-        Command::Check(paths) => return checking::check_all(rt, &paths),
+        Command::Check(options) => return checking::check_all(rt, &options),
         Command::Cite(options) => commands::cite(rt, &options)?,
         Command::Bibliography(options) => commands::bibliography(rt, &options)?,
         Command::Explain(options) => commands::explain(rt, &options)?,

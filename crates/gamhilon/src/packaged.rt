@@ -1,6 +1,6 @@
 //! The styles that are built in are printed.
-use crate::error::CommandError;
-use packaged_styles::styles::{NAMES, style_named};
+use program_files::error::CommandError;
+use program_styles::styles::{NAMES, style_named};
 
 /// Prints the names of the styles that are built in, or the file of that of this name.
 ///

@@ -1,6 +1,6 @@
 //! A session does what lines say.
-use crate::error::CommandError;
-use crate::files::unreadable;
+use program_files::error::CommandError;
+use program_files::files::unreadable;
 use session_lines::lines::LineSession;
 
 /// Answers each line of the standard input by a line.

@@ -1,11 +1,11 @@
 -- What is handed out is of the document.
 use Rattle.std.proofs.Common.{◌≡◌, inl, inr, ℕ, ◌<◌, List, length, Option, Some, Result, Ok, Err, String, Global, subst, arith}
-use Rattle.csl_assembly.specs.declared.rendered.Rendered.{Rendered}
-use Rattle.json_document.specs.Form.{Document}
-use Rattle.cite_document.specs.Run.{answer, HasAnswer, IsRefused, Prints}
-use Rattle.cite_document.specs.Status.{status}
-use Rattle.cite_document.specs.declared.error.RunError.{RunError}
-use Rattle.cite_document.specs.declared.error.RunError.TheVariants as errors
+use Rattle.driver_assembly.specs.declared.rendered.Rendered.{Rendered}
+use Rattle.document_requests.specs.Form.{Document}
+use Rattle.document_answer.specs.Run.{answer, HasAnswer, IsRefused, Prints}
+use Rattle.document_answer.specs.Status.{status}
+use Rattle.document_answer.specs.declared.error.RunError.{RunError}
+use Rattle.document_answer.specs.declared.error.RunError.TheVariants as errors
 use Rattle.gamhilon_c.specs.Called.{Called, Fills, HandsOut, PlacesText}
 
 module _ (text_of : Rendered → List ℕ) (read : Option Document) (code : ℕ) (before after : List ℕ) (needed : ℕ) where

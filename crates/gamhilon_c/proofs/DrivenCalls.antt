@@ -1,11 +1,11 @@
 -- What is handed out is what comes of the driven document.
 use Rattle.std.proofs.Common.{◌≡◌, inl, inr, ℕ, List, Option, Result, Ok, Err, String, Global, string_bytes, arith}
-use Rattle.cite_document.specs.Status.{status}
-use Rattle.cite_document.specs.declared.error.RunError.{RunError}
-use Rattle.cite_document.specs.declared.error.RunError.TheVariants as errors
-use Rattle.cite_document.specs.Run.{IsDocumentThat, IsRefusedFor}
-use Rattle.host_document.specs.Drive.{Drives, Tells}
-use Rattle.host_document.specs.DrivenForm.{DrivenDocument}
+use Rattle.document_answer.specs.Status.{status}
+use Rattle.document_answer.specs.declared.error.RunError.{RunError}
+use Rattle.document_answer.specs.declared.error.RunError.TheVariants as errors
+use Rattle.document_answer.specs.Run.{IsDocumentThat, IsRefusedFor}
+use Rattle.document_driven.specs.Drive.{Drives, Tells}
+use Rattle.document_driven.specs.DrivenForm.{DrivenDocument}
 use Rattle.gamhilon_c.specs.Called.{HandsOut, PlacesText}
 use Rattle.gamhilon_c.specs.CalledDriven.{CalledDriven}
 

@@ -2,11 +2,11 @@
 use Rattle.std.proofs.Common.{◌≡◌, inl, inr, ℕ, ◌<◌, ◌⊎◌, List, [], length, Option, Result, Ok, Err, String, Global, string_bytes, subst, ap, ◌∙◌, sym, arith}
 use Rattle.std.specs.Prelude.{IsSome, None}
 use Rattle.serde_json.specs.Data.{Data}
-use Rattle.json_values.specs.declared.fault.Fault.{Fault}
-use Rattle.cite_document.specs.FaultText.{fault_text}
-use Rattle.cite_document.specs.Status.{status}
-use Rattle.cite_document.specs.TellsFault.{IsFaultText, TellsFault}
-use Rattle.cite_document.specs.declared.error.RunError.{RunError}
+use Rattle.document_values.specs.declared.fault.Fault.{Fault}
+use Rattle.document_answer.specs.FaultText.{fault_text}
+use Rattle.document_answer.specs.Status.{status}
+use Rattle.document_answer.specs.TellsFault.{IsFaultText, TellsFault}
+use Rattle.document_answer.specs.declared.error.RunError.{RunError}
 use Rattle.gamhilon_c.specs.Called.{Fills, HandsOut, PlacesText}
 use Rattle.gamhilon_c.specs.FindsFault.{FindsFault}
 

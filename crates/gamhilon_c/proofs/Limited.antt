@@ -1,12 +1,12 @@
 -- What a refusal of limits says is what its status says.
 use Rattle.std.proofs.Common.{◌≡◌, ℕ, Option, List, Result, Ok, Err, arith, inl, inr}
 use Rattle.std.specs.Prelude.{⊤}
-use Rattle.csl_style_values.specs.Style.{StyleValue}
-use Rattle.csl_limits.specs.declared.limits.Excess.TheVariants as excess
-use Rattle.csl_limits.specs.declared.limits.Limits.{Limits}
-use Rattle.cite_document.specs.Limited.{ChecksStyles, limit_status}
-use Rattle.cite_document.specs.declared.limits.LimitError.{LimitError}
-use Rattle.cite_document.specs.declared.limits.LimitError.TheVariants as errors
+use Rattle.value_styles.specs.Style.{StyleValue}
+use Rattle.driver_styles.specs.declared.limits.Excess.TheVariants as excess
+use Rattle.driver_styles.specs.declared.limits.Limits.{Limits}
+use Rattle.document_answer.specs.Limited.{ChecksStyles, limit_status}
+use Rattle.document_answer.specs.declared.limits.LimitError.{LimitError}
+use Rattle.document_answer.specs.declared.limits.LimitError.TheVariants as errors
 use Rattle.gamhilon_c.specs.KeepsLimits.{KeepsLimits}
 
 module _ (limits : Limits) (styles : Option (List StyleValue)) (code : ℕ) where

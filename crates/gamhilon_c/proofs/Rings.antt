@@ -1,11 +1,11 @@
 -- What is handed out of a ring is of the document.
 use Rattle.std.proofs.Common.{◌≡◌, ℕ, Option, Result, Ok, Err, arith}
-use Rattle.csl_assembly.specs.declared.rendered.Rendered.{Rendered}
-use Rattle.json_document.specs.Form.{Document}
-use Rattle.cite_document.specs.Run.{IsRunAnswer, IsRefused}
-use Rattle.cite_document.specs.Status.{status}
-use Rattle.cite_document.specs.declared.error.RunError.{RunError}
-use Rattle.cite_document.specs.declared.error.RunError.TheVariants as errors
+use Rattle.driver_assembly.specs.declared.rendered.Rendered.{Rendered}
+use Rattle.document_requests.specs.Form.{Document}
+use Rattle.document_answer.specs.Run.{IsRunAnswer, IsRefused}
+use Rattle.document_answer.specs.Status.{status}
+use Rattle.document_answer.specs.declared.error.RunError.{RunError}
+use Rattle.document_answer.specs.declared.error.RunError.TheVariants as errors
 use Rattle.gamhilon_c.specs.Ring.{FindsRing, HandsOutRing, NotesRing}
 use Rattle.gamhilon_c.specs.declared.ring.GamhilonRing.{GamhilonRing}
 

@@ -2,11 +2,11 @@
 use Rattle.std.specs.Prelude.{◌≡◌, ◌≢◌, ℕ, ◌<◌, ◌≤◌, ◌⊎◌, List, ◌++◌, length, drop, Option, None, Result, Ok, Err, String, string_bytes}
 use Rattle.std.specs.declared.alloc.Global.{Global}
 use Rattle.csl_driver.specs.declared.error.RingLocation.{RingLocation}
-use Rattle.csl_assembly.specs.declared.rendered.Rendered.{Rendered}
-use Rattle.json_document.specs.Form.{Document}
-use Rattle.cite_document.specs.Run.{answer, HasAnswer, HasFirstRing, HasTooLargeNumbers, IsDocumentThat}
-use Rattle.cite_document.specs.Status.{status}
-use Rattle.cite_document.specs.declared.error.RunError.{RunError}
+use Rattle.driver_assembly.specs.declared.rendered.Rendered.{Rendered}
+use Rattle.document_requests.specs.Form.{Document}
+use Rattle.document_answer.specs.Run.{answer, HasAnswer, HasFirstRing, HasTooLargeNumbers, IsDocumentThat}
+use Rattle.document_answer.specs.Status.{status}
+use Rattle.document_answer.specs.declared.error.RunError.{RunError}
 
 -- some style of the document has a ring
 abbrev pub HasRing : Document → Type 0

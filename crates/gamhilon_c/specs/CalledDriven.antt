@@ -1,8 +1,8 @@
 -- What a call for what comes of a driven document does.
 use Rattle.std.specs.Prelude.{◌≡◌, ◌≢◌, ℕ, ◌<◌, ◌≤◌, List, length, Option, None}
-use Rattle.cite_document.specs.Run.{HasTooLargeNumbers, IsDocumentThat}
-use Rattle.host_document.specs.Drive.{Tells}
-use Rattle.host_document.specs.DrivenForm.{DrivenDocument}
+use Rattle.document_answer.specs.Run.{HasTooLargeNumbers, IsDocumentThat}
+use Rattle.document_driven.specs.Drive.{Tells}
+use Rattle.document_driven.specs.DrivenForm.{DrivenDocument}
 use Rattle.gamhilon_c.specs.Called.{Fills, HasRing}
 
 -- there is a driven document, and the text of what comes of it is such

@@ -1,9 +1,9 @@
 -- What a call for the fault of a document does.
 use Rattle.std.specs.Prelude.{◌≡◌, ◌≢◌, ℕ, ◌<◌, ◌⊎◌, List, length, Option, None, IsSome}
 use Rattle.serde_json.specs.Data.{Data}
-use Rattle.json_values.specs.declared.fault.Fault.{Fault}
-use Rattle.json_document.specs.Faults.{IsFaultIn}
-use Rattle.cite_document.specs.FaultText.{fault_text}
+use Rattle.document_values.specs.declared.fault.Fault.{Fault}
+use Rattle.document_requests.specs.Faults.{IsFaultIn}
+use Rattle.document_answer.specs.FaultText.{fault_text}
 use Rattle.gamhilon_c.specs.Called.{Fills}
 
 -- there is no document, but a fault of the value, or of the text that is none, that is such

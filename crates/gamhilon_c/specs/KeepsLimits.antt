@@ -1,12 +1,12 @@
 -- What a call for limits does.
 use Rattle.std.specs.Prelude.{◌≡◌, ℕ, ◌⊎◌, List, Option, None}
 use Rattle.std.specs.List.{All, Any}
-use Rattle.csl_style_values.specs.Ring.{HasNoRing}
-use Rattle.csl_style_values.specs.Style.{StyleValue}
-use Rattle.csl_limits.specs.Limited.{Exceeds, IsWithinLimits}
-use Rattle.csl_limits.specs.declared.limits.Excess.TheVariants as excess
-use Rattle.csl_limits.specs.declared.limits.Limits.{Limits}
-use Rattle.cite_document.specs.Limited.{AreStylesThat}
+use Rattle.value_styles.specs.Ring.{HasNoRing}
+use Rattle.value_styles.specs.Style.{StyleValue}
+use Rattle.driver_styles.specs.Limited.{Exceeds, IsWithinLimits}
+use Rattle.driver_styles.specs.declared.limits.Excess.TheVariants as excess
+use Rattle.driver_styles.specs.declared.limits.Limits.{Limits}
+use Rattle.document_answer.specs.Limited.{AreStylesThat}
 
 -- A call that ended with the status `code`. The bytes that it was given hold the styles of
 -- `styles`, or none.

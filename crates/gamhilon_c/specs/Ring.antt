@@ -2,12 +2,12 @@
 use Rattle.std.specs.Prelude.{◌≡◌, ◌≢◌, ℕ, ◌≤◌, Option, None, Result, Ok, Err}
 use Rattle.csl_driver.specs.declared.error.RingLocation.{RingLocation}
 use Rattle.csl_driver.specs.declared.error.RingLocation.TheVariants as places
-use Rattle.csl_assembly.specs.declared.rendered.Rendered.{Rendered}
-use Rattle.json_document.specs.Form.{Document}
-use Rattle.cite_document.specs.Run.{HasAnswer, HasFirstRing, HasTooLargeNumbers, IsDocumentThat}
-use Rattle.cite_document.specs.Status.{status}
-use Rattle.cite_document.specs.declared.error.RunError.{RunError}
-use Rattle.cite_document.specs.declared.error.RunError.TheVariants as errors
+use Rattle.driver_assembly.specs.declared.rendered.Rendered.{Rendered}
+use Rattle.document_requests.specs.Form.{Document}
+use Rattle.document_answer.specs.Run.{HasAnswer, HasFirstRing, HasTooLargeNumbers, IsDocumentThat}
+use Rattle.document_answer.specs.Status.{status}
+use Rattle.document_answer.specs.declared.error.RunError.{RunError}
+use Rattle.document_answer.specs.declared.error.RunError.TheVariants as errors
 use Rattle.gamhilon_c.specs.declared.ring.GamhilonRing.{GamhilonRing}
 
 -- the numbers that tell a style's place and that of a macro

@@ -2,7 +2,7 @@
 ghost use Rattle.std.specs.Prelude.{◌≡◌, length};
 ghost use Rattle.gamhilon_c.specs.Called.{HandsOut, PlacesText};
 
-use cite_document::error::RunError;
+use document_answer::error::RunError;
 
 /// The buffer begins with the text, or there is nothing to refuse.
 pub(crate) const ANSWERED: u32 = 0;

@@ -10,10 +10,10 @@ mod ring;
 mod sessions;
 mod texts;
 
-ghost use Rattle.json_document.specs.Form.{form, value_in};
-ghost use Rattle.cite_document.specs.Limited.{styles_in};
-ghost use Rattle.cite_document.specs.Print.{json_text, print};
-ghost use Rattle.host_document.specs.DrivenForm.{driven_form};
+ghost use Rattle.document_requests.specs.Form.{form, value_in};
+ghost use Rattle.document_answer.specs.Limited.{styles_in};
+ghost use Rattle.document_answer.specs.Print.{json_text, print};
+ghost use Rattle.document_driven.specs.DrivenForm.{driven_form};
 ghost use Rattle.gamhilon_c.specs.Called.{Called};
 ghost use Rattle.gamhilon_c.specs.CalledDriven.{CalledDriven};
 ghost use Rattle.gamhilon_c.specs.FindsFault.{FindsFault};
@@ -28,12 +28,12 @@ use crate::texts::hand_out_of_texts;
 use cite_call::calling::{cite, find_fault};
 use cite_call::references::read_references;
 use cite_call::texts::CallTexts;
-use cite_document::faults::print_fault_bytes;
-use cite_document::limits::check_limits;
-use cite_document::running::{answer_bytes, print_bytes, print_json_bytes};
-use csl_limits::limits::Limits;
-use host_document::driving::drive_bytes;
-use host_document::faults::print_driven_fault_bytes;
+use document_answer::faults::print_fault_bytes;
+use document_answer::limits::check_limits;
+use document_answer::running::{answer_bytes, print_bytes, print_json_bytes};
+use document_driven::driving::drive_bytes;
+use document_driven::faults::print_driven_fault_bytes;
+use driver_styles::limits::Limits;
 use std::alloc::Global;
 
 /// Puts what the document prints into the buffer, and reports how many bytes that takes. Gives the

@@ -2,9 +2,9 @@
 ghost use Rattle.std.specs.Prelude.{◌≡◌};
 ghost use Rattle.gamhilon_c.specs.Ring.{HandsOutRing, NotesRing, ring_numbers};
 
-use cite_document::error::RunError;
 use csl_driver::error::RingLocation;
 use csl_driver::rendered::Rendered;
+use document_answer::error::RunError;
 
 /// Where the macros of a style call each other in a ring.
 #[derive(Clone, Copy)]

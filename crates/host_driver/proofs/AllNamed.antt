@@ -5,17 +5,17 @@ use Rattle.std.specs.Bool.{if◌then◌else◌}
 use Rattle.std.specs.List.{list_any}
 use Rattle.std.proofs.lemmas.Bool.{lt-ltb, ltb-false, ltb-true}
 use Rattle.std.proofs.lemmas.List.Elements.{All-append, All-cons, All-contains, All-nil, Contains-append_left, Contains-push}
-use Rattle.csl_ambiguity.proofs.Contained.{some-in}
+use Rattle.rounds_ambiguity.proofs.Contained.{some-in}
 use Rattle.ordered_set.specs.Keys.{with_key}
-use Rattle.csl_values.specs.Answers.{Answers}
-use Rattle.csl_values.specs.Tells.{TellsEqual}
+use Rattle.value_sources.specs.Answers.{Answers}
+use Rattle.value_sources.specs.Tells.{TellsEqual}
 use Rattle.host_memo.specs.Keys.{stage, task_key}
 use Rattle.host_memo.specs.Written.{key_eq}
-use Rattle.host_table.specs.Table.{IsMissingOf, is_earlier, is_later, kept_beside, note_once}
+use Rattle.host_driver.specs.Table.{IsMissingOf, is_earlier, is_later, kept_beside, note_once}
 use Rattle.host_memo.specs.declared.key.TaskKey.{TaskKey}
-use Rattle.csl_writers.specs.Tasks.{TaskValue}
-use Rattle.csl_writers.specs.Writing.{noted_all}
-use Rattle.csl_writers.specs.declared.cite.Cite.{Cite}
+use Rattle.driver_writers.specs.Tasks.{TaskValue}
+use Rattle.driver_writers.specs.Writing.{noted_all}
+use Rattle.driver_writers.specs.declared.cite.Cite.{Cite}
 
 -- the stage of what is named first
 abbrev first_stage : List TaskKey → ℕ

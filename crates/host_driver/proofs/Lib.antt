@@ -1,1 +1,3 @@
 pub mod AllNamed
+pub mod MissingTasks
+pub mod AllWritten

@@ -1,6 +1,6 @@
 -- What comes of a table: the answer where it has all that is asked for, else what it lacks of that.
 use Rattle.std.specs.Prelude.{◌≡◌, ◌≤◌, Bool, List, [], Option, All, Contains, IsSome}
-use Rattle.csl_values.specs.Answers.{Answers}
+use Rattle.value_sources.specs.Answers.{Answers}
 use Rattle.csl_driver.specs.Answer.{Job}
 use Rattle.csl_driver.specs.CslPromised.{IsCslAnswer}
 use Rattle.csl_driver.specs.CslTasks.{csl_tasks}
@@ -8,15 +8,15 @@ use Rattle.csl_driver.specs.Promised.{CanBeAnswered, IsAnswer}
 use Rattle.csl_driver.specs.WriterTasks.{tasks}
 use Rattle.csl_driver.specs.declared.account.Account.{Account}
 use Rattle.csl_driver.specs.declared.csl_account.CslAccount.{CslAccount}
-use Rattle.csl_assembly.specs.declared.rendered.Rendered.{Rendered}
-use Rattle.csl_round_laws.specs.declared.mode.RoundMode.{RoundMode}
+use Rattle.driver_assembly.specs.declared.rendered.Rendered.{Rendered}
+use Rattle.rounds_runs.specs.declared.mode.RoundMode.{RoundMode}
 use Rattle.host_memo.specs.Keys.{stage, task_key}
-use Rattle.host_table.specs.Table.{IsMissingOf, table_writing}
+use Rattle.host_driver.specs.Table.{IsMissingOf, table_writing}
 use Rattle.host_driver.specs.declared.drive.Driven.{Driven}
 use Rattle.host_driver.specs.declared.drive.Driven.TheVariants as results
 use Rattle.host_memo.specs.declared.key.TaskKey.{TaskKey}
-use Rattle.csl_writers.specs.Tasks.{TaskValue}
-use Rattle.csl_writers.specs.declared.cite.Cite.{Cite}
+use Rattle.driver_writers.specs.Tasks.{TaskValue}
+use Rattle.driver_writers.specs.declared.cite.Cite.{Cite}
 
 module _ {E P : Type 0} (eq : E → E → Bool) (answers : E → Answers)
     (table : TaskKey → Option Cite) (job : Job E P) (asked : List (TaskValue E P)) where

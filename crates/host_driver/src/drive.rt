@@ -5,19 +5,19 @@ ghost use Rattle.csl_driver.specs.Rings.{Refuses};
 ghost use Rattle.host_driver.specs.Driven.{IsCslDriven, IsDriven};
 ghost use Rattle.host_memo.specs.Written.{found};
 
+use crate::table::TableWriter;
 use csl_base::entry::EntryLike;
 use csl_driver::account::Account;
 use csl_driver::csl_account::CslAccount;
 use csl_driver::driver::BibliographyDriver;
 use csl_driver::error::DriverError;
 use csl_driver::rendered::Rendered;
-use csl_passes::request::BibliographyRequest;
-use csl_round_laws::mode::RoundMode;
+use driver_passes::request::BibliographyRequest;
 use host_memo::key::TaskKey;
 use host_memo::laws::key_equality_decides;
 use host_memo::table::Table;
-use host_table::table::TableWriter;
 use ordered_set::set::OrderedSet;
+use rounds_runs::mode::RoundMode;
 use std::alloc::Global;
 
 /// What comes of a table, with accounts of this type.

@@ -6,8 +6,8 @@ use Rattle.std.proofs.lemmas.Map.Made.{is_some-lookup}
 use Rattle.ordered_map.specs.Entries.{Entries, keys_of, value_at, with_entry}
 use Rattle.ordered_map.proofs.Lookups.{entry-added, keys-with_entry, value-stays}
 use Rattle.ordered_set.specs.Keys.{with_key}
-use Rattle.csl_values.specs.Tells.{TellsEqual}
-use Rattle.csl_writers.specs.declared.cite.Cite.{Cite}
+use Rattle.value_sources.specs.Tells.{TellsEqual}
+use Rattle.driver_writers.specs.declared.cite.Cite.{Cite}
 use Rattle.host_memo.specs.Memo.{Grows}
 use Rattle.host_memo.specs.Written.{found, key_eq, keys}
 use Rattle.host_memo.specs.declared.key.TaskKey.{TaskKey}

@@ -1,8 +1,8 @@
 -- Styles of a host, which have a name in place of layouts.
 use Rattle.std.specs.Prelude.{ℕ, List, [], None, false}
-use Rattle.csl_style_values.specs.Element.{Elements, element, no_elements, text_element, value_target}
-use Rattle.csl_style_values.specs.Style.{StyleValue}
-use Rattle.csl_values.specs.Formatting.{nothing_asked}
+use Rattle.value_styles.specs.Element.{Elements, element, no_elements, text_element, value_target}
+use Rattle.value_styles.specs.Style.{StyleValue}
+use Rattle.value_sources.specs.Formatting.{nothing_asked}
 
 -- the text with which elements begin
 abbrev pub leading_text : Elements → List ℕ

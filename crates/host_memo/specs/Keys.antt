@@ -1,18 +1,18 @@
 -- What identifies a task in a table.
 use Rattle.std.specs.Prelude.{ℕ, List, [], None, option_map, if◌then◌else◌}
-use Rattle.csl_values.specs.Answers.{Answers}
-use Rattle.csl_values.specs.declared.taxonomy.Locator.{Locator}
-use Rattle.csl_lookup.specs.Lookup.{Source, locale_in_use}
-use Rattle.csl_lookup.specs.Means.{are_none}
-use Rattle.csl_lookup.specs.Properties.{LocatorValue, Payload, Properties, own_payload, text_payload}
-use Rattle.csl_lookup.specs.declared.means.Means.{Means}
-use Rattle.csl_lookup.specs.declared.state.DisambiguateState.{DisambiguateState}
+use Rattle.value_sources.specs.Answers.{Answers}
+use Rattle.value_sources.specs.declared.taxonomy.Locator.{Locator}
+use Rattle.driver_lookup.specs.Lookup.{Source, locale_in_use}
+use Rattle.driver_lookup.specs.Means.{are_none}
+use Rattle.driver_lookup.specs.Properties.{LocatorValue, Payload, Properties, own_payload, text_payload}
+use Rattle.driver_lookup.specs.declared.means.Means.{Means}
+use Rattle.driver_lookup.specs.declared.state.DisambiguateState.{DisambiguateState}
 use Rattle.host_memo.specs.HostStyle.{host_style_name}
 use Rattle.host_memo.specs.declared.key.Standing.{Standing}
 use Rattle.host_memo.specs.declared.key.TaskKey.{TaskKey}
 use Rattle.host_memo.specs.declared.key.TaskPart.{TaskPart}
 use Rattle.host_memo.specs.declared.key.TaskPart.TheVariants as parts
-use Rattle.csl_writers.specs.Tasks.{CiteTaskValue, DateTaskValue, ItemTaskValue, LastPlace, TaskValue, cite_task, date_task, item_task}
+use Rattle.driver_writers.specs.Tasks.{CiteTaskValue, DateTaskValue, ItemTaskValue, LastPlace, TaskValue, cite_task, date_task, item_task}
 
 -- the text of a locator; a payload of the caller's own has none
 abbrev pub key_text : {P : Type 0} → Payload P → List ℕ

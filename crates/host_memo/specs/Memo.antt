@@ -1,16 +1,16 @@
 -- What a table says of how its texts are written.
 use Rattle.std.specs.Prelude.{◌≡◌, List, Option, Some, None}
 use Rattle.std.proofs.Common.{ap}
-use Rattle.csl_values.specs.Answers.{Answers}
+use Rattle.value_sources.specs.Answers.{Answers}
 use Rattle.ordered_set.specs.Keys.{with_key}
 use Rattle.host_memo.specs.Keys.{cite_key, date_key, item_key, key_of_part, standing_of, task_key}
 use Rattle.host_memo.specs.Written.{key_eq, written_as}
 use Rattle.host_memo.specs.declared.key.TaskKey.{TaskKey}
 use Rattle.host_memo.specs.declared.key.TaskPart.{TaskPart}
 use Rattle.host_memo.specs.declared.key.TaskPart.TheVariants as parts
-use Rattle.csl_writers.specs.Tasks.{TaskValue}
-use Rattle.csl_writers.specs.Writing.{AreWrittenEqually, WriterState, noted_all}
-use Rattle.csl_writers.specs.declared.cite.Cite.{Cite}
+use Rattle.driver_writers.specs.Tasks.{TaskValue}
+use Rattle.driver_writers.specs.Writing.{AreWrittenEqually, WriterState, noted_all}
+use Rattle.driver_writers.specs.declared.cite.Cite.{Cite}
 
 -- what was written is what is written in this way
 pub record Agrees (table : TaskKey → Option Cite) (way : TaskKey → Cite) : Type 0 where

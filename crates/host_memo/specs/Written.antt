@@ -1,10 +1,10 @@
 -- What is kept of what was written.
 use Rattle.std.specs.Prelude.{Bool, false, List, [], Option, None, unwrap_or}
 use Rattle.ordered_map.specs.Entries.{Entries, keys_of, value_at}
-use Rattle.csl_lookup.specs.declared.state.IdentifierUsage.{IdentifierUsage}
+use Rattle.driver_lookup.specs.declared.state.IdentifierUsage.{IdentifierUsage}
 use Rattle.host_memo.specs.contracts.key.TaskKeyPartialEq.TheImpl as key_equality
 use Rattle.host_memo.specs.declared.key.TaskKey.{TaskKey}
-use Rattle.csl_writers.specs.declared.cite.Cite.{Cite}
+use Rattle.driver_writers.specs.declared.cite.Cite.{Cite}
 
 -- `==` of keys
 abbrev pub key_eq : TaskKey → TaskKey → Bool

@@ -1,7 +1,7 @@
 //! Styles of a host, which have a name in place of layouts.
 ghost use Rattle.std.specs.Prelude.{◌≡◌, IfOk};
-ghost use Rattle.csl_style_values.specs.ElementView.{elements_view};
-ghost use Rattle.csl_style_values.specs.StyleView.{style_view};
+ghost use Rattle.value_styles.specs.ElementView.{elements_view};
+ghost use Rattle.value_styles.specs.StyleView.{style_view};
 ghost use Rattle.host_memo.specs.HostStyle.{one_text, host_style_name};
 
 use csl_base::element::{Affixes, LayoutRenderingElement, TextTarget};

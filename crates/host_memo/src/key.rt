@@ -1,7 +1,7 @@
 //! What a host is asked to write, as a value of its own.
 ghost use Rattle.std.specs.Prelude.{◌≡◌, IfOk, option_map};
-ghost use Rattle.csl_lookup.specs.PropertiesView.{locator_view, properties_view};
-ghost use Rattle.csl_lookup.specs.SourceView.{source_view};
+ghost use Rattle.driver_lookup.specs.PropertiesView.{locator_view, properties_view};
+ghost use Rattle.driver_lookup.specs.SourceView.{source_view};
 ghost use Rattle.host_memo.specs.Keys.{
   cite_key,
   date_key,
@@ -10,19 +10,19 @@ ghost use Rattle.host_memo.specs.Keys.{
   located,
   standing_of,
 };
-ghost use Rattle.csl_writers.specs.TaskView.{cite_task_view, date_task_view, item_task_view};
+ghost use Rattle.driver_writers.specs.TaskView.{cite_task_view, date_task_view, item_task_view};
 
 use crate::host_style::style_name;
 use csl_base::entry::EntryLike;
 use csl_base::taxonomy::Locator;
 use csl_base::text::Text;
-use csl_lookup::locator::{LocatorPayload, SpecificLocator};
-use csl_lookup::lookup::StyleLocales;
-use csl_lookup::means::Means;
-use csl_lookup::properties::CiteProperties;
-use csl_lookup::purpose::CitePurpose;
-use csl_lookup::state::{CollapseVerdict, DisambiguateState, IbidState, IdentifierUsage};
-use csl_writers::task::{CiteTask, DateTask, ItemTask};
+use driver_lookup::locator::{LocatorPayload, SpecificLocator};
+use driver_lookup::lookup::StyleLocales;
+use driver_lookup::means::Means;
+use driver_lookup::properties::CiteProperties;
+use driver_lookup::purpose::CitePurpose;
+use driver_lookup::state::{CollapseVerdict, DisambiguateState, IbidState, IdentifierUsage};
+use driver_writers::task::{CiteTask, DateTask, ItemTask};
 use std::alloc::{AllocError, Global};
 
 /// What is asked for: an entry, by its key, in a style, by its name, and in the locale in use.

@@ -1,9 +1,9 @@
 //! Laws of keys.
-ghost use Rattle.csl_values.specs.Tells.{TellsEqual};
+ghost use Rattle.value_sources.specs.Tells.{TellsEqual};
 
 use crate::key::{Standing, TaskKey, TaskPart};
 use csl_base::laws::taxonomy_equality_decides;
-use csl_lookup::laws::state_equality_decides;
+use driver_lookup::laws::state_equality_decides;
 
 /// A law: `==` of keys, and of their parts, is true exactly of equal values.
 pub fn key_equality_decides()

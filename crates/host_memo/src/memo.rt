@@ -7,9 +7,9 @@ use crate::source::Source;
 use crate::table::{Table, copied};
 use csl_base::elem::ElemChildren;
 use csl_base::entry::EntryLike;
-use csl_writers::cite::Cite;
-use csl_writers::task::{CiteTask, DateTask, ItemTask};
-use csl_writers::writer::CiteWriter;
+use driver_writers::cite::Cite;
+use driver_writers::task::{CiteTask, DateTask, ItemTask};
+use driver_writers::writer::CiteWriter;
 use ordered_map::map::OrderedMap;
 use std::alloc::{AllocError, Global};
 
@@ -25,7 +25,7 @@ pub struct Memo<S: Source> {
 
 impl<S: Source> Memo<S> {
     ghost use Rattle.std.specs.Prelude.{◌≡◌, [], IfNone, IfOk, IfSome, OnOk, None, Some};
-    ghost use Rattle.csl_writers.specs.declared.cite.Cite.{Cite};
+    ghost use Rattle.driver_writers.specs.declared.cite.Cite.{Cite};
     ghost use Rattle.host_memo.specs.Memo.{Agrees, Grows, key_noted};
     ghost use Rattle.host_memo.specs.Written.{found, keys};
     ghost use Rattle.host_memo.specs.declared.key.TaskKey.{TaskKey};
@@ -115,7 +115,7 @@ impl<T: EntryLike, P, S: Source> CiteWriter<T, P> for Memo<S> {
     };
     ghost use Rattle.host_memo.specs.Written.{found, keys};
     ghost use Rattle.host_memo.specs.declared.key.TaskKey.{TaskKey};
-    ghost use Rattle.csl_writers.specs.declared.cite.Cite.{Cite};
+    ghost use Rattle.driver_writers.specs.declared.cite.Cite.{Cite};
 
     type Error = S::Error;
 

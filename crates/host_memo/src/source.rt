@@ -1,6 +1,6 @@
 //! A source of texts.
 use crate::key::TaskKey;
-use csl_writers::cite::Cite;
+use driver_writers::cite::Cite;
 use std::alloc::{AllocError, Global};
 
 /// Writes what a driver asks for: code of any kind, which may answer otherwise each time that it is
@@ -8,7 +8,7 @@ use std::alloc::{AllocError, Global};
 pub trait Source {
     ghost use Rattle.std.specs.Prelude.{⊤, IfOk};
     ghost use Rattle.host_memo.specs.declared.key.TaskKey.{TaskKey};
-    ghost use Rattle.csl_writers.specs.declared.cite.Cite.{Cite};
+    ghost use Rattle.driver_writers.specs.declared.cite.Cite.{Cite};
 
     /// Why it may write nothing; lack of memory among others.
     type Error: From<AllocError> + Drop;

@@ -2,7 +2,7 @@
 ghost use Rattle.std.specs.Prelude.{◌≡◌, IfOk};
 
 use crate::key::TaskKey;
-use csl_writers::cite::Cite;
+use driver_writers::cite::Cite;
 use ordered_map::map::OrderedMap;
 use std::alloc::AllocError;
 

@@ -8,27 +8,27 @@ use Rattle.std.proofs.lemmas.Bool.Decides.{nat_tests}
 use Rattle.std.proofs.lemmas.List.Elements.{All-map}
 use Rattle.std.proofs.lemmas.List.FromFn.{length-enumerate_from}
 use Rattle.std.proofs.lemmas.Option.{none-some, same_Some, slice_get-map}
-use Rattle.csl_values.specs.Forms.{Forms}
-use Rattle.csl_values.specs.Ordered.{extent}
-use Rattle.csl_values.specs.declared.names.DisambiguatedNameForm.{DisambiguatedNameForm}
-use Rattle.csl_telling.specs.ByDocument.{document_form}
-use Rattle.csl_telling.specs.Forms.{base, greater, only_counts, raised_form, shown, written}
-use Rattle.csl_telling.specs.Looks.{same_look}
-use Rattle.csl_telling.specs.Persons.{own_forms}
-use Rattle.csl_telling.specs.Reaches.{can_be_shown, first_member, is_by_cite, reach, reach_by}
-use Rattle.csl_telling.specs.Telling.{both_go_on, first_difference, form_against, form_beside, form_needed, group_of, names_against, names_needed}
-use Rattle.csl_telling.specs.Told.{asking, least_form, told_by_names}
-use Rattle.csl_telling.specs.declared.look.Look.{Look}
-use Rattle.csl_telling.specs.declared.mention.MentionedName.{MentionedName}
-use Rattle.csl_telling.specs.declared.mention.NamedMention.{NamedMention}
-use Rattle.csl_telling.specs.declared.reach.Reach.{Reach}
-use Rattle.csl_mentions.specs.declared.state.MentionState.{MentionState}
-use Rattle.csl_mentions.specs.declared.written.Written.{Written}
-use Rattle.csl_tables.specs.Tables.{named, third_table}
-use Rattle.csl_tables.specs.declared.subject.Subject.{Subject}
-use Rattle.csl_told_laws.proofs.Appearing.{base-written, form-at, forms-are, greatest-within, raised-left}
-use Rattle.csl_told_laws.proofs.Listing.{all-every, zip-map}
-use Rattle.csl_told_laws.proofs.Settled.{settled, third-table}
+use Rattle.value_sources.specs.Forms.{Forms}
+use Rattle.value_sources.specs.Ordered.{extent}
+use Rattle.value_sources.specs.declared.names.DisambiguatedNameForm.{DisambiguatedNameForm}
+use Rattle.mentions_names.specs.ByDocument.{document_form}
+use Rattle.mentions_names.specs.Forms.{base, greater, only_counts, raised_form, shown, written}
+use Rattle.mentions_names.specs.Looks.{same_look}
+use Rattle.mentions_names.specs.Persons.{own_forms}
+use Rattle.mentions_names.specs.Reaches.{can_be_shown, first_member, is_by_cite, reach, reach_by}
+use Rattle.mentions_names.specs.Telling.{both_go_on, first_difference, form_against, form_beside, form_needed, group_of, names_against, names_needed}
+use Rattle.mentions_names.specs.Told.{asking, least_form, told_by_names}
+use Rattle.mentions_names.specs.declared.look.Look.{Look}
+use Rattle.mentions_names.specs.declared.mention.MentionedName.{MentionedName}
+use Rattle.mentions_names.specs.declared.mention.NamedMention.{NamedMention}
+use Rattle.mentions_names.specs.declared.reach.Reach.{Reach}
+use Rattle.mentions_groups.specs.declared.state.MentionState.{MentionState}
+use Rattle.mentions_groups.specs.declared.written.Written.{Written}
+use Rattle.mentions_tables.specs.Tables.{named, third_table}
+use Rattle.mentions_tables.specs.declared.subject.Subject.{Subject}
+use Rattle.mentions_table_laws.proofs.Appearing.{base-written, form-at, forms-are, greatest-within, raised-left}
+use Rattle.mentions_table_laws.proofs.Listing.{all-every, zip-map}
+use Rattle.mentions_table_laws.proofs.Settled.{settled, third-table}
 use Rattle.mentions_laws.specs.Adding.{AddsAsStylesSay, HasForm, NamesAreAsStylesSay, group_adds_given_names, group_adds_names}
 
 -- ---- how many names are needed

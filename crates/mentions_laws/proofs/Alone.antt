@@ -4,16 +4,16 @@ use Rattle.std.specs.Prelude.{if◌then◌else◌, slice_get, zip}
 use Rattle.std.specs.List.{AllZip, enumerate_from}
 use Rattle.std.specs.Option.{option_and_then}
 use Rattle.std.proofs.lemmas.List.Elements.{All-head, All-tail}
-use Rattle.csl_arranging.specs.Order.{final_request}
-use Rattle.csl_arranging.specs.Repeating.{all_repeated, first_repeated, is_looked_at, repeated_at, repeated_where}
-use Rattle.csl_arranging.specs.Requests.{Request as Arranged}
-use Rattle.csl_arranging.specs.declared.repeating.Repeated.{Repeated}
-use Rattle.csl_arranging.specs.declared.request.FinalCite.{FinalCite}
-use Rattle.csl_arranging.specs.declared.request.RequestedCite.{RequestedCite as PlainCite}
-use Rattle.csl_arranging.specs.declared.request.Shown.{Shown}
-use Rattle.csl_notes.specs.declared.repeats.Position.{Position}
-use Rattle.csl_tables.specs.Steps.{all_changed}
-use Rattle.csl_told_cites.specs.Repeats.{cites_with_shown, with_first_key, with_shown}
+use Rattle.mentions_arranging.specs.Order.{final_request}
+use Rattle.mentions_arranging.specs.Repeating.{all_repeated, first_repeated, is_looked_at, repeated_at, repeated_where}
+use Rattle.mentions_arranging.specs.Requests.{Request as Arranged}
+use Rattle.mentions_arranging.specs.declared.repeating.Repeated.{Repeated}
+use Rattle.mentions_arranging.specs.declared.request.FinalCite.{FinalCite}
+use Rattle.mentions_arranging.specs.declared.request.RequestedCite.{RequestedCite as PlainCite}
+use Rattle.mentions_arranging.specs.declared.request.Shown.{Shown}
+use Rattle.mentions_notes.specs.declared.repeats.Position.{Position}
+use Rattle.mentions_tables.specs.Steps.{all_changed}
+use Rattle.mentions_cites.specs.Repeats.{cites_with_shown, with_first_key, with_shown}
 use Rattle.mentions_laws.proofs.Standing.{shown_row}
 use Rattle.mentions_laws.specs.Cites.{IsByMentionsAlone, NoneRepeats}
 

@@ -4,25 +4,25 @@ use Rattle.std.specs.Prelude.{if◌then◌else◌, is_some, nat_eq, nat_lt, opti
 use Rattle.std.specs.Option.{is_none, option_and_then, option_eq, option_map_or}
 use Rattle.std.proofs.lemmas.Bool.{and_parts, eqb-true, not-true}
 use Rattle.std.proofs.lemmas.Option.{none-some, same_Some}
-use Rattle.csl_style_values.specs.declared.style.Collapse.{Collapse}
-use Rattle.csl_runs.specs.NumberRanges.{rises}
-use Rattle.csl_runs.specs.Stretches.{both}
-use Rattle.csl_runs.specs.SuffixStretches.{fits, is_alike, is_alone, joins}
-use Rattle.csl_runs.specs.declared.collapsed.Delimiter.{Delimiter}
-use Rattle.csl_runs.proofs.Following.{rises-sound}
-use Rattle.csl_runs.proofs.Suffixed.{joins-sound}
-use Rattle.csl_blocks.specs.Collapsed.{collapsed, cut_of, delimiter_of}
-use Rattle.csl_blocks.specs.Parts.{part_at, shown_at}
-use Rattle.csl_blocks.specs.declared.collapsed.YearCut.{YearCut}
-use Rattle.csl_blocks.specs.declared.collapsed.YearDelimiter.{YearDelimiter}
-use Rattle.csl_blocks.specs.declared.years.BlockDelimiter.{BlockDelimiter}
-use Rattle.csl_arranging.specs.Arranged.{arranged_by_years, arranged_cite}
-use Rattle.csl_arranging.specs.Collapsing.{block_years, cite_ranges, fits_range, names_shown, numbered_cite, range_number, shown_cite, suffixed_cite, years_with_ranges}
-use Rattle.csl_arranging.specs.Order.{collapses_years}
-use Rattle.csl_arranging.specs.declared.arranged.ArrangedCite.{ArrangedCite}
-use Rattle.csl_arranging.specs.declared.positioned.PositionedCite.{PositionedCite}
-use Rattle.csl_arranging.specs.declared.request.CiteStyle.{CiteStyle}
-use Rattle.csl_arranging.specs.declared.request.RequestedCite.{RequestedCite}
+use Rattle.value_styles.specs.declared.style.Collapse.{Collapse}
+use Rattle.mentions_ranges.specs.NumberRanges.{rises}
+use Rattle.mentions_ranges.specs.Stretches.{both}
+use Rattle.mentions_ranges.specs.SuffixStretches.{fits, is_alike, is_alone, joins}
+use Rattle.mentions_ranges.specs.declared.collapsed.Delimiter.{Delimiter}
+use Rattle.mentions_ranges.proofs.Following.{rises-sound}
+use Rattle.mentions_ranges.proofs.Suffixed.{joins-sound}
+use Rattle.mentions_blocks.specs.Collapsed.{collapsed, cut_of, delimiter_of}
+use Rattle.mentions_blocks.specs.Parts.{part_at, shown_at}
+use Rattle.mentions_blocks.specs.declared.collapsed.YearCut.{YearCut}
+use Rattle.mentions_blocks.specs.declared.collapsed.YearDelimiter.{YearDelimiter}
+use Rattle.mentions_blocks.specs.declared.years.BlockDelimiter.{BlockDelimiter}
+use Rattle.mentions_arranging.specs.Arranged.{arranged_by_years, arranged_cite}
+use Rattle.mentions_arranging.specs.Collapsing.{block_years, cite_ranges, fits_range, names_shown, numbered_cite, range_number, shown_cite, suffixed_cite, years_with_ranges}
+use Rattle.mentions_arranging.specs.Order.{collapses_years}
+use Rattle.mentions_arranging.specs.declared.arranged.ArrangedCite.{ArrangedCite}
+use Rattle.mentions_arranging.specs.declared.positioned.PositionedCite.{PositionedCite}
+use Rattle.mentions_arranging.specs.declared.request.CiteStyle.{CiteStyle}
+use Rattle.mentions_arranging.specs.declared.request.RequestedCite.{RequestedCite}
 use Rattle.mentions_laws.specs.Arranged.{AreArranged, IsArranged, IsUncollapsed, ShowsBareNumber, counts_on, cut_at, holds_before, is_dash, is_inner_at, reads_on}
 use Rattle.mentions_laws.specs.Cuts.{NamesStandBefore}
 use Rattle.mentions_laws.proofs.Blocks.{IsBlocked, blocked, loses_names, shown}

@@ -2,18 +2,18 @@
 use Rattle.std.proofs.Common.{◌≡◌, ℕ, zero, suc, Bool, true, false, ◌&&◌, Option, Some, List, map, refl, ap, sym, ◌∙◌, true≢false}
 use Rattle.std.specs.Prelude.{if◌then◌else◌, is_some, nat_lt, option_map, slice_get, zip}
 use Rattle.std.specs.List.{enumerate_from}
-use Rattle.csl_style_values.specs.declared.style.Collapse.{Collapse}
-use Rattle.csl_run_laws.proofs.Placed.{at-number, at-place}
-use Rattle.csl_runs.specs.Stretches.{both}
-use Rattle.csl_blocks.specs.Parts.{part_at}
-use Rattle.csl_blocks.specs.Years.{follows, in_one_part, year_of, years}
-use Rattle.csl_blocks.specs.declared.parts.ShownCite.{ShownCite}
-use Rattle.csl_blocks.specs.declared.years.BlockYear.{BlockYear}
-use Rattle.csl_blocks.specs.declared.years.YearCollapse.{YearCollapse}
-use Rattle.csl_arranging.specs.Collapsing.{block_cite, block_cites, block_years, names_shown, part_places, shown_cite, whole_in_part, year_collapse}
-use Rattle.csl_arranging.specs.Order.{collapses_years}
-use Rattle.csl_arranging.specs.declared.positioned.PositionedCite.{PositionedCite}
-use Rattle.csl_arranging.specs.declared.request.CiteStyle.{CiteStyle}
+use Rattle.value_styles.specs.declared.style.Collapse.{Collapse}
+use Rattle.mentions_ranges.proofs.Placed.{at-number, at-place}
+use Rattle.mentions_ranges.specs.Stretches.{both}
+use Rattle.mentions_blocks.specs.Parts.{part_at}
+use Rattle.mentions_blocks.specs.Years.{follows, in_one_part, year_of, years}
+use Rattle.mentions_blocks.specs.declared.parts.ShownCite.{ShownCite}
+use Rattle.mentions_blocks.specs.declared.years.BlockYear.{BlockYear}
+use Rattle.mentions_blocks.specs.declared.years.YearCollapse.{YearCollapse}
+use Rattle.mentions_arranging.specs.Collapsing.{block_cite, block_cites, block_years, names_shown, part_places, shown_cite, whole_in_part, year_collapse}
+use Rattle.mentions_arranging.specs.Order.{collapses_years}
+use Rattle.mentions_arranging.specs.declared.positioned.PositionedCite.{PositionedCite}
+use Rattle.mentions_arranging.specs.declared.request.CiteStyle.{CiteStyle}
 use Rattle.mentions_laws.proofs.Parting.{follows-is}
 use Rattle.mentions_laws.proofs.Places.{mapped, there-before, zipped}
 

@@ -6,35 +6,35 @@ use Rattle.std.specs.List.{AllZip, enumerate_from}
 use Rattle.std.proofs.Math.ListN.{length-map}
 use Rattle.std.proofs.lemmas.List.Elements.{All-weaker}
 use Rattle.std.proofs.lemmas.List.FromFn.{length-enumerate_from}
-use Rattle.csl_arranging.specs.Arranged.{arranged_cites}
-use Rattle.csl_arranging.specs.Order.{final_request, grouped_cite, is_grouped}
-use Rattle.csl_arranging.specs.Repeating.{final_positions, handed_request, repeating_request}
-use Rattle.csl_arranging.specs.Requests.{Request as Arranged}
-use Rattle.csl_arranging.specs.declared.arranged.ArrangedCite.{ArrangedCite}
-use Rattle.csl_arranging.specs.declared.repeating.Repeated.{Repeated}
-use Rattle.csl_arranging.specs.declared.request.FinalCite.{FinalCite}
-use Rattle.csl_arranging.specs.declared.request.RequestedCite.{RequestedCite as PlainCite}
-use Rattle.csl_arranging.specs.declared.request.Shown.{Shown}
-use Rattle.csl_assembly.specs.ByMeans.{bibliography_by_means}
-use Rattle.csl_assembly.specs.declared.rendered.Rendered.{Rendered}
-use Rattle.csl_cited_mentions.specs.ToldMeans.{means_of}
-use Rattle.csl_entries.specs.Entries.{is_in, place}
-use Rattle.csl_lookup.specs.Properties.{LocatorValue}
-use Rattle.csl_mentions.specs.declared.state.MentionState.{MentionState}
-use Rattle.csl_mentions.specs.declared.written.Written.{Written}
-use Rattle.csl_notes.specs.Repeats.{positions}
-use Rattle.csl_passes.specs.Renders.{CiteRender, ItemRender}
-use Rattle.csl_passes.specs.Request.{wanted_source}
-use Rattle.csl_positions.specs.FinalProperties.{cited_finally, items_finally}
-use Rattle.csl_requested_mentions.specs.Handed.{cite_counts, is_cited_again}
-use Rattle.csl_requested_mentions.specs.Homes.{HomeValue, homes_of}
-use Rattle.csl_tables.specs.Asked.{untold}
-use Rattle.csl_tables.specs.Steps.{all_changed}
-use Rattle.csl_told_cites.specs.Mentions.{mention_index, suffix_number}
-use Rattle.csl_told_cites.specs.Repeats.{cites_with_shown, shown_repeat}
-use Rattle.csl_told_cites.proofs.Standing.{told-of}
-use Rattle.csl_writers.specs.Tasks.{CiteTaskValue}
-use Rattle.csl_writers.specs.Writing.{Writing}
+use Rattle.mentions_arranging.specs.Arranged.{arranged_cites}
+use Rattle.mentions_arranging.specs.Order.{final_request, grouped_cite, is_grouped}
+use Rattle.mentions_arranging.specs.Repeating.{final_positions, handed_request, repeating_request}
+use Rattle.mentions_arranging.specs.Requests.{Request as Arranged}
+use Rattle.mentions_arranging.specs.declared.arranged.ArrangedCite.{ArrangedCite}
+use Rattle.mentions_arranging.specs.declared.repeating.Repeated.{Repeated}
+use Rattle.mentions_arranging.specs.declared.request.FinalCite.{FinalCite}
+use Rattle.mentions_arranging.specs.declared.request.RequestedCite.{RequestedCite as PlainCite}
+use Rattle.mentions_arranging.specs.declared.request.Shown.{Shown}
+use Rattle.driver_assembly.specs.ByMeans.{bibliography_by_means}
+use Rattle.driver_assembly.specs.declared.rendered.Rendered.{Rendered}
+use Rattle.mentions_cited.specs.ToldMeans.{means_of}
+use Rattle.driver_entries.specs.Entries.{is_in, place}
+use Rattle.driver_lookup.specs.Properties.{LocatorValue}
+use Rattle.mentions_groups.specs.declared.state.MentionState.{MentionState}
+use Rattle.mentions_groups.specs.declared.written.Written.{Written}
+use Rattle.mentions_notes.specs.Repeats.{positions}
+use Rattle.driver_passes.specs.Renders.{CiteRender, ItemRender}
+use Rattle.driver_passes.specs.Request.{wanted_source}
+use Rattle.driver_positions.specs.FinalProperties.{cited_finally, items_finally}
+use Rattle.mentions_cited.specs.Handed.{cite_counts, is_cited_again}
+use Rattle.mentions_cited.specs.Homes.{HomeValue, homes_of}
+use Rattle.mentions_tables.specs.Asked.{untold}
+use Rattle.mentions_tables.specs.Steps.{all_changed}
+use Rattle.mentions_cites.specs.Mentions.{mention_index, suffix_number}
+use Rattle.mentions_cites.specs.Repeats.{cites_with_shown, shown_repeat}
+use Rattle.mentions_cites.proofs.Standing.{told-of}
+use Rattle.driver_writers.specs.Tasks.{CiteTaskValue}
+use Rattle.driver_writers.specs.Writing.{Writing}
 use Rattle.csl_driver.specs.Answer.{Job}
 use Rattle.csl_driver.specs.CslAccount.{entries_told, every_second}
 use Rattle.csl_driver.specs.CslAnswer.{cite_notes, cites_arranged, cites_in_order, entry_suffixes, item_means, keyed, known, last_kept, listed, listed_cites, mentions, numbers_in_the_end, ordered, plain, read, repeated_cites, repeated_firsts, same_locator, shown_mentions, shown_repeated, states}

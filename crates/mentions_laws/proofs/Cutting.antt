@@ -1,8 +1,8 @@
 -- The names of a cite that is cut stand before it.
 use Rattle.std.proofs.Common.{◌≡◌, ◌⊎◌, inl, inr, ℕ, zero, suc, ◌<◌, ◌≤◌, Bool, true, false, cond, Option, Some, None, List, refl, ap, sym, ◌∙◌, true≢false, arith}
 use Rattle.std.proofs.lemmas.Option.{none-some}
-use Rattle.csl_blocks.specs.Parts.{joins, names_at, shown_at}
-use Rattle.csl_blocks.specs.declared.parts.ShownCite.{ShownCite}
+use Rattle.mentions_blocks.specs.Parts.{joins, names_at, shown_at}
+use Rattle.mentions_blocks.specs.declared.parts.ShownCite.{ShownCite}
 use Rattle.mentions_laws.specs.Cuts.{NamesStandBefore}
 use Rattle.mentions_laws.proofs.Parting.{shown-names}
 

@@ -4,23 +4,23 @@ use Rattle.std.specs.Prelude.{filter_map, option_map, slice_get, zip}
 use Rattle.std.specs.List.{AllZip, cons_option}
 use Rattle.std.proofs.lemmas.List.Elements.{All-head, All-tail}
 use Rattle.std.proofs.lemmas.Option.{none-some, same_Some, slice_get-map}
-use Rattle.csl_arranging.specs.Arranged.{arranged_request}
-use Rattle.csl_arranging.specs.Collapsing.{collapse_of}
-use Rattle.csl_arranging.specs.Positioned.{positioned_cites}
-use Rattle.csl_arranging.specs.Requests.{Request as Arranged}
-use Rattle.csl_arranging.specs.declared.arranged.ArrangedCite.{ArrangedCite}
-use Rattle.csl_arranging.specs.declared.positioned.PositionedCite.{PositionedCite}
-use Rattle.csl_arranging.specs.declared.request.FinalCite.{FinalCite}
-use Rattle.csl_arranging.specs.declared.request.RequestedCite.{RequestedCite as PlainCite}
-use Rattle.csl_lookup.specs.Properties.{LocatorValue}
-use Rattle.csl_notes.specs.declared.notes.CiteNotes.{CiteNotes}
-use Rattle.csl_notes.specs.declared.repeats.Position.{Position}
-use Rattle.csl_passes.specs.Renders.{CiteRender, ItemRender}
-use Rattle.csl_passes.specs.Request.{RequestedCite, Request}
-use Rattle.csl_tables.specs.Steps.{all_changed}
-use Rattle.csl_told_cites.specs.Arranging.{arranged_by, arranged_finally}
-use Rattle.csl_told_cites.specs.Cites.{ToldValue, told_at, told_cite, told_cites}
-use Rattle.csl_told_cites.specs.Requests.{plain_request, plain_requests}
+use Rattle.mentions_arranging.specs.Arranged.{arranged_request}
+use Rattle.mentions_arranging.specs.Collapsing.{collapse_of}
+use Rattle.mentions_arranging.specs.Positioned.{positioned_cites}
+use Rattle.mentions_arranging.specs.Requests.{Request as Arranged}
+use Rattle.mentions_arranging.specs.declared.arranged.ArrangedCite.{ArrangedCite}
+use Rattle.mentions_arranging.specs.declared.positioned.PositionedCite.{PositionedCite}
+use Rattle.mentions_arranging.specs.declared.request.FinalCite.{FinalCite}
+use Rattle.mentions_arranging.specs.declared.request.RequestedCite.{RequestedCite as PlainCite}
+use Rattle.driver_lookup.specs.Properties.{LocatorValue}
+use Rattle.mentions_notes.specs.declared.notes.CiteNotes.{CiteNotes}
+use Rattle.mentions_notes.specs.declared.repeats.Position.{Position}
+use Rattle.driver_passes.specs.Renders.{CiteRender, ItemRender}
+use Rattle.driver_passes.specs.Request.{RequestedCite, Request}
+use Rattle.mentions_tables.specs.Steps.{all_changed}
+use Rattle.mentions_cites.specs.Arranging.{arranged_by, arranged_finally}
+use Rattle.mentions_cites.specs.Cites.{ToldValue, told_at, told_cite, told_cites}
+use Rattle.mentions_cites.specs.Requests.{plain_request, plain_requests}
 use Rattle.mentions_laws.specs.Cites.{AreGivenExactly, IsGivenExactly, Row, bare}
 use Rattle.mentions_laws.proofs.Arranging.{are-arranged}
 use Rattle.mentions_laws.proofs.Standing.{AreStanding, ShowsUnlessRepeated, Stands, plain_one}

@@ -6,30 +6,30 @@ use Rattle.std.specs.List.{cons_option, enumerate_from, filter_map}
 use Rattle.std.proofs.Math.ListN.{length-map}
 use Rattle.std.proofs.lemmas.List.{map-append}
 use Rattle.std.proofs.lemmas.List.Elements.{All-cons, All-head, All-nil, All-tail}
-use Rattle.csl_assembly.specs.BibliographyItems.{item_by, with_first_field}
-use Rattle.csl_assembly.specs.ByMeans.{bibliography_by_means, task_by}
-use Rattle.csl_assembly.specs.declared.by_means.ItemMeans.{ItemMeans}
-use Rattle.csl_assembly.specs.declared.rendered.RenderedBibliography.{RenderedBibliography}
-use Rattle.csl_authors.specs.Substitution.{Item, each_substituted, repeats, substitute_text, with_substitute}
-use Rattle.csl_authors.specs.declared.repeated.Substituted.{Substituted}
-use Rattle.csl_authors.proofs.Repeating.{length-repeats}
-use Rattle.csl_style_values.specs.Style.{BibliographyValue}
-use Rattle.csl_style_values.specs.declared.style.SubsequentAuthorSubstituteRule.{SubsequentAuthorSubstituteRule}
-use Rattle.csl_values.specs.declared.formatting.Formatted.{Formatted}
+use Rattle.driver_assembly.specs.BibliographyItems.{item_by, with_first_field}
+use Rattle.driver_assembly.specs.ByMeans.{bibliography_by_means, task_by}
+use Rattle.driver_assembly.specs.declared.by_means.ItemMeans.{ItemMeans}
+use Rattle.driver_assembly.specs.declared.rendered.RenderedBibliography.{RenderedBibliography}
+use Rattle.mentions_authors.specs.Substitution.{Item, each_substituted, repeats, substitute_text, with_substitute}
+use Rattle.mentions_authors.specs.declared.repeated.Substituted.{Substituted}
+use Rattle.mentions_authors.proofs.Repeating.{length-repeats}
+use Rattle.value_styles.specs.Style.{BibliographyValue}
+use Rattle.value_styles.specs.declared.style.SubsequentAuthorSubstituteRule.{SubsequentAuthorSubstituteRule}
+use Rattle.value_sources.specs.declared.formatting.Formatted.{Formatted}
 use Rattle.csl_driver.specs.Answer.{Job, used_order}
 use Rattle.csl_driver.specs.CslAnswer.{listed, listed_cites}
 use Rattle.csl_driver.specs.ListedOnce.{EqualHaveEqualKeys, key_of, keys_of}
 use Rattle.csl_driver.proofs.ListedKeys.{AreEqual, equal-apart, equal-in, equal-length}
-use Rattle.csl_entries.specs.Entries.{is_in}
-use Rattle.csl_entries.specs.Laws.{NoTwoEqual}
-use Rattle.csl_entries.proofs.ListedPlaces.{all-cited}
-use Rattle.csl_entries.proofs.Once.{holds_each_once}
-use Rattle.csl_entries.proofs.Placing.{all_in, left, right}
-use Rattle.csl_lookup.specs.Lookup.{Source}
-use Rattle.csl_passes.specs.Renders.{CiteRender, ItemRender}
-use Rattle.csl_passes.specs.Request.{cited, wanted_source}
-use Rattle.csl_positions.specs.FinalProperties.{cited_finally, first_item, items_finally}
-use Rattle.csl_writers.specs.Writing.{Writing}
+use Rattle.driver_entries.specs.Entries.{is_in}
+use Rattle.driver_entries.specs.Laws.{NoTwoEqual}
+use Rattle.driver_entries.proofs.ListedPlaces.{all-cited}
+use Rattle.driver_entries.proofs.Once.{holds_each_once}
+use Rattle.driver_entries.proofs.Placing.{all_in, left, right}
+use Rattle.driver_lookup.specs.Lookup.{Source}
+use Rattle.driver_passes.specs.Renders.{CiteRender, ItemRender}
+use Rattle.driver_passes.specs.Request.{cited, wanted_source}
+use Rattle.driver_positions.specs.FinalProperties.{cited_finally, first_item, items_finally}
+use Rattle.driver_writers.specs.Writing.{Writing}
 use Rattle.mentions_laws.specs.Listing.{ListsEntriesOnce}
 
 -- where each member gives one, these are what they give

@@ -2,13 +2,13 @@
 use Rattle.std.proofs.Common.{◌≡◌, ℕ, List, length, refl, ◌∙◌}
 use Rattle.std.specs.Prelude.{zip}
 use Rattle.std.proofs.Math.ListN.{length-map}
-use Rattle.csl_arranging.specs.Arranged.{arranged_request}
-use Rattle.csl_arranging.specs.Collapsing.{block_years, cite_ranges, collapse_of, collapsed_cites}
-use Rattle.csl_arranging.specs.Positioned.{positioned_cites}
-use Rattle.csl_arranging.specs.Requests.{Request}
-use Rattle.csl_arranging.specs.declared.positioned.PositionedCite.{PositionedCite}
-use Rattle.csl_arranging.specs.declared.request.FinalCite.{FinalCite}
-use Rattle.csl_notes.specs.declared.repeats.Position.{Position}
+use Rattle.mentions_arranging.specs.Arranged.{arranged_request}
+use Rattle.mentions_arranging.specs.Collapsing.{block_years, cite_ranges, collapse_of, collapsed_cites}
+use Rattle.mentions_arranging.specs.Positioned.{positioned_cites}
+use Rattle.mentions_arranging.specs.Requests.{Request}
+use Rattle.mentions_arranging.specs.declared.positioned.PositionedCite.{PositionedCite}
+use Rattle.mentions_arranging.specs.declared.request.FinalCite.{FinalCite}
+use Rattle.mentions_notes.specs.declared.repeats.Position.{Position}
 use Rattle.csl_driver.proofs.CslLong.{blocks-long, both-long, ranges-long}
 use Rattle.mentions_laws.specs.Arranged.{AreArranged}
 use Rattle.mentions_laws.proofs.Arranging.{are-arranged}

@@ -4,15 +4,15 @@ use Rattle.std.specs.Prelude.{if◌then◌else◌, nat_eq, option_map, slice_get
 use Rattle.std.specs.List.{cons_option, enumerate_from, range_with_len}
 use Rattle.std.proofs.lemmas.Bool.{eqb-true}
 use Rattle.std.proofs.lemmas.Option.{none-some, same_Some}
-use Rattle.csl_blocks.specs.Blocks.{block, block_order, placed_cite, placed_cites}
-use Rattle.csl_blocks.specs.declared.blocks.GroupedCite.{GroupedCite}
-use Rattle.csl_blocks.specs.declared.blocks.PlacedCite.{PlacedCite}
-use Rattle.csl_arranging.specs.Order.{cites_in_order, final_cites, grouped_cite, handed_order, is_grouped, with_place}
-use Rattle.csl_arranging.specs.declared.request.CiteStyle.{CiteStyle}
-use Rattle.csl_arranging.specs.declared.request.FinalCite.{FinalCite}
-use Rattle.csl_arranging.specs.declared.request.RequestedCite.{RequestedCite}
+use Rattle.mentions_blocks.specs.Blocks.{block, block_order, placed_cite, placed_cites}
+use Rattle.mentions_blocks.specs.declared.blocks.GroupedCite.{GroupedCite}
+use Rattle.mentions_blocks.specs.declared.blocks.PlacedCite.{PlacedCite}
+use Rattle.mentions_arranging.specs.Order.{cites_in_order, final_cites, grouped_cite, handed_order, is_grouped, with_place}
+use Rattle.mentions_arranging.specs.declared.request.CiteStyle.{CiteStyle}
+use Rattle.mentions_arranging.specs.declared.request.FinalCite.{FinalCite}
+use Rattle.mentions_arranging.specs.declared.request.RequestedCite.{RequestedCite}
 use Rattle.mentions_laws.specs.Order.{AreInBlockOrder}
-use Rattle.csl_run_laws.proofs.Placed.{at-place}
+use Rattle.mentions_ranges.proofs.Placed.{at-place}
 
 -- what holds of each member
 abbrev Each : {X : Type 0} → (X → Type 0) → List X → Type 0

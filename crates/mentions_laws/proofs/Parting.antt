@@ -6,9 +6,9 @@ use Rattle.std.specs.Option.{option_and_then, option_map_or}
 use Rattle.std.proofs.lemmas.Bool.Decides.{nat_tests}
 use Rattle.std.proofs.lemmas.Bool.{and_from, and_parts, eqb-true}
 use Rattle.std.proofs.lemmas.Option.{none-some, same_Some}
-use Rattle.csl_runs.specs.Stretches.{both}
-use Rattle.csl_blocks.specs.Parts.{goes_on, joins, names_at, part_at, shown_at}
-use Rattle.csl_blocks.specs.declared.parts.ShownCite.{ShownCite}
+use Rattle.mentions_ranges.specs.Stretches.{both}
+use Rattle.mentions_blocks.specs.Parts.{goes_on, joins, names_at, part_at, shown_at}
+use Rattle.mentions_blocks.specs.declared.parts.ShownCite.{ShownCite}
 use Rattle.mentions_laws.specs.Parts.{GoesOn, HasParts, are_of_one_block}
 
 module _ (cites : List ShownCite) where

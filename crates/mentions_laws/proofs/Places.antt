@@ -2,7 +2,7 @@
 use Rattle.std.proofs.Common.{◌≡◌, ℕ, zero, suc, Bool, true, false, not, ◌&&◌, Option, Some, None, List, [], ◌∷◌, map, refl, ap, sym, ◌∙◌}
 use Rattle.std.specs.Prelude.{option_map, slice_get, zip}
 use Rattle.std.proofs.lemmas.Option.{none-some, slice_get-map}
-use Rattle.csl_runs.specs.Stretches.{both}
+use Rattle.mentions_ranges.specs.Stretches.{both}
 
 pub mapped : {X Y : Type 0} (f : X → Y) (xs : List X) (k : ℕ) (x : X) → slice_get xs k ≡ Some x → slice_get (map f xs) k ≡ Some (f x)
 mapped f xs k x h = slice_get-map f xs k ∙ ap (option_map f) h

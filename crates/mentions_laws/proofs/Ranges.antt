@@ -2,18 +2,18 @@
 use Rattle.std.proofs.Common.{◌≡◌, ℕ, zero, suc, Bool, true, false, not, ◌&&◌, Option, Some, None, List, map, refl, ap, sym, ◌∙◌}
 use Rattle.std.specs.Prelude.{if◌then◌else◌, option_map, slice_get}
 use Rattle.std.proofs.lemmas.Option.{none-some}
-use Rattle.csl_style_values.specs.declared.style.Collapse.{Collapse}
-use Rattle.csl_run_laws.proofs.Placed.{at-number, at-place}
-use Rattle.csl_runs.specs.NumberRanges.{follows_range, in_range, rises, shows_number}
-use Rattle.csl_runs.specs.Stretches.{ends_long, is_inner, is_later}
-use Rattle.csl_runs.specs.SuffixStretches.{fits, in_stretch, joins, suffixes_rise}
-use Rattle.csl_runs.specs.declared.collapsed.CollapsedCite.{CollapsedCite}
-use Rattle.csl_runs.specs.declared.collapsed.Delimiter.{Delimiter}
-use Rattle.csl_runs.proofs.Following.{rises-sound}
-use Rattle.csl_runs.proofs.Linked.{IsSound, came_here, ends, goes_on, inner, later}
-use Rattle.csl_runs.proofs.Suffixed.{joins-sound, rise-sound}
-use Rattle.csl_arranging.specs.Collapsing.{cite_ranges, numbered_cite, suffixed_cite, unranged}
-use Rattle.csl_arranging.specs.declared.positioned.PositionedCite.{PositionedCite}
+use Rattle.value_styles.specs.declared.style.Collapse.{Collapse}
+use Rattle.mentions_ranges.proofs.Placed.{at-number, at-place}
+use Rattle.mentions_ranges.specs.NumberRanges.{follows_range, in_range, rises, shows_number}
+use Rattle.mentions_ranges.specs.Stretches.{ends_long, is_inner, is_later}
+use Rattle.mentions_ranges.specs.SuffixStretches.{fits, in_stretch, joins, suffixes_rise}
+use Rattle.mentions_ranges.specs.declared.collapsed.CollapsedCite.{CollapsedCite}
+use Rattle.mentions_ranges.specs.declared.collapsed.Delimiter.{Delimiter}
+use Rattle.mentions_ranges.proofs.Following.{rises-sound}
+use Rattle.mentions_ranges.proofs.Linked.{IsSound, came_here, ends, goes_on, inner, later}
+use Rattle.mentions_ranges.proofs.Suffixed.{joins-sound, rise-sound}
+use Rattle.mentions_arranging.specs.Collapsing.{cite_ranges, numbered_cite, suffixed_cite, unranged}
+use Rattle.mentions_arranging.specs.declared.positioned.PositionedCite.{PositionedCite}
 use Rattle.mentions_laws.specs.Arranged.{counts_on, holds_before, reads_on}
 use Rattle.mentions_laws.proofs.Places.{and-false, dash-there, mapped}
 

@@ -4,24 +4,24 @@ use Rattle.std.specs.Prelude.{⊤, if◌then◌else◌, option_map, slice_get, z
 use Rattle.std.specs.List.{AllZip, cons_option, enumerate_from}
 use Rattle.std.proofs.lemmas.List.Elements.{All-cons, All-head, All-nil, All-tail}
 use Rattle.std.proofs.lemmas.Option.{none-some, same_Some, slice_get-map}
-use Rattle.csl_arranging.specs.Order.{cites_in_order, final_order, final_request, with_place}
-use Rattle.csl_arranging.specs.Repeating.{all_repeated, is_looked_at, repeated_at, repeated_where, repeating_cite, repeating_request}
-use Rattle.csl_arranging.specs.Requests.{Request as Arranged}
-use Rattle.csl_arranging.specs.declared.repeating.Repeated.{Repeated}
-use Rattle.csl_arranging.specs.declared.request.FinalCite.{FinalCite}
-use Rattle.csl_arranging.specs.declared.request.RequestedCite.{RequestedCite as PlainCite}
-use Rattle.csl_arranging.specs.declared.request.Shown.{Shown}
-use Rattle.csl_blocks.specs.declared.blocks.PlacedCite.{PlacedCite}
-use Rattle.csl_entries.specs.Entries.{place}
-use Rattle.csl_lookup.specs.Properties.{LocatorValue}
-use Rattle.csl_notes.specs.declared.notes.CiteNotes.{CiteNotes}
-use Rattle.csl_notes.specs.declared.repeats.Position.{Position}
-use Rattle.csl_passes.specs.Request.{RequestedCite, Request}
-use Rattle.csl_tables.specs.Steps.{all_changed}
-use Rattle.csl_told_cites.specs.Mentions.{mention_of}
-use Rattle.csl_told_cites.specs.Repeats.{cites_with_shown, with_first_key, with_key, with_shown}
-use Rattle.csl_told_cites.specs.Requests.{plain_cite, plain_request, plain_requests, request_facts}
-use Rattle.csl_told_cites.specs.declared.mentions.ToldMention.{ToldMention}
+use Rattle.mentions_arranging.specs.Order.{cites_in_order, final_order, final_request, with_place}
+use Rattle.mentions_arranging.specs.Repeating.{all_repeated, is_looked_at, repeated_at, repeated_where, repeating_cite, repeating_request}
+use Rattle.mentions_arranging.specs.Requests.{Request as Arranged}
+use Rattle.mentions_arranging.specs.declared.repeating.Repeated.{Repeated}
+use Rattle.mentions_arranging.specs.declared.request.FinalCite.{FinalCite}
+use Rattle.mentions_arranging.specs.declared.request.RequestedCite.{RequestedCite as PlainCite}
+use Rattle.mentions_arranging.specs.declared.request.Shown.{Shown}
+use Rattle.mentions_blocks.specs.declared.blocks.PlacedCite.{PlacedCite}
+use Rattle.driver_entries.specs.Entries.{place}
+use Rattle.driver_lookup.specs.Properties.{LocatorValue}
+use Rattle.mentions_notes.specs.declared.notes.CiteNotes.{CiteNotes}
+use Rattle.mentions_notes.specs.declared.repeats.Position.{Position}
+use Rattle.driver_passes.specs.Request.{RequestedCite, Request}
+use Rattle.mentions_tables.specs.Steps.{all_changed}
+use Rattle.mentions_cites.specs.Mentions.{mention_of}
+use Rattle.mentions_cites.specs.Repeats.{cites_with_shown, with_first_key, with_key, with_shown}
+use Rattle.mentions_cites.specs.Requests.{plain_cite, plain_request, plain_requests, request_facts}
+use Rattle.mentions_cites.specs.declared.mentions.ToldMention.{ToldMention}
 use Rattle.mentions_laws.specs.Cites.{bare}
 
 -- ---- lists whose members are changed by others beside them

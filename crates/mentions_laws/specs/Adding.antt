@@ -3,19 +3,19 @@
 use Rattle.std.specs.Prelude.{◌≡◌, ℕ, All, Bool, true, false, List, Option, Some, map, slice_get}
 use Rattle.std.specs.List.{zip}
 use Rattle.std.specs.Option.{option_map_or}
-use Rattle.csl_values.specs.declared.names.DisambiguatedNameForm.{DisambiguatedNameForm}
-use Rattle.csl_values.specs.declared.names.NameDisambiguationProperties.{NameDisambiguationProperties}
-use Rattle.csl_telling.specs.ByDocument.{document_form}
-use Rattle.csl_telling.specs.Forms.{base, only_counts, written}
-use Rattle.csl_telling.specs.Persons.{own_forms}
-use Rattle.csl_telling.specs.Reaches.{first_member, is_by_cite}
-use Rattle.csl_telling.specs.declared.mention.MentionedName.{MentionedName}
-use Rattle.csl_telling.specs.declared.mention.NamedMention.{NamedMention}
-use Rattle.csl_mentions.specs.declared.state.MentionState.{MentionState}
-use Rattle.csl_mentions.specs.declared.written.Written.{Written}
-use Rattle.csl_tables.specs.Tables.{named}
-use Rattle.csl_tables.specs.declared.subject.Subject.{Subject}
-use Rattle.csl_told_laws.specs.Shown.{forms_in}
+use Rattle.value_sources.specs.declared.names.DisambiguatedNameForm.{DisambiguatedNameForm}
+use Rattle.value_sources.specs.declared.names.NameDisambiguationProperties.{NameDisambiguationProperties}
+use Rattle.mentions_names.specs.ByDocument.{document_form}
+use Rattle.mentions_names.specs.Forms.{base, only_counts, written}
+use Rattle.mentions_names.specs.Persons.{own_forms}
+use Rattle.mentions_names.specs.Reaches.{first_member, is_by_cite}
+use Rattle.mentions_names.specs.declared.mention.MentionedName.{MentionedName}
+use Rattle.mentions_names.specs.declared.mention.NamedMention.{NamedMention}
+use Rattle.mentions_groups.specs.declared.state.MentionState.{MentionState}
+use Rattle.mentions_groups.specs.declared.written.Written.{Written}
+use Rattle.mentions_tables.specs.Tables.{named}
+use Rattle.mentions_tables.specs.declared.subject.Subject.{Subject}
+use Rattle.mentions_table_laws.specs.Shown.{forms_in}
 
 module _ (mentions : List NamedMention) (m : NamedMention) where
   -- the style of the mention that leads its group adds names; or given names cite by cite

@@ -1,19 +1,19 @@
 -- How the cites of a request, in their final order, are cut, hidden in ranges, and stand after
 -- dashes, each by its neighbours.
 use Rattle.std.specs.Prelude.{◌≡◌, ◌⊎◌, ℕ, zero, suc, Bool, true, false, not, ◌&&◌, List, None, Option, Some, is_some, length, map, nat_lt, option_map, slice_get}
-use Rattle.csl_style_values.specs.declared.style.Collapse.{Collapse}
-use Rattle.csl_run_laws.specs.ReadBack.{holds_at}
-use Rattle.csl_runs.specs.NumberRanges.{rises}
-use Rattle.csl_runs.specs.Stretches.{both}
-use Rattle.csl_runs.specs.SuffixStretches.{joins, suffixes_rise}
-use Rattle.csl_blocks.specs.Collapsed.{cut_of}
-use Rattle.csl_blocks.specs.Parts.{shown_at}
-use Rattle.csl_blocks.specs.declared.collapsed.YearCut.{YearCut}
-use Rattle.csl_blocks.specs.declared.collapsed.YearDelimiter.{YearDelimiter}
-use Rattle.csl_arranging.specs.Collapsing.{names_shown, numbered_cite, shown_cite, suffixed_cite}
-use Rattle.csl_arranging.specs.Order.{collapses_years}
-use Rattle.csl_arranging.specs.declared.arranged.ArrangedCite.{ArrangedCite}
-use Rattle.csl_arranging.specs.declared.positioned.PositionedCite.{PositionedCite}
+use Rattle.value_styles.specs.declared.style.Collapse.{Collapse}
+use Rattle.mentions_ranges.specs.ReadBack.{holds_at}
+use Rattle.mentions_ranges.specs.NumberRanges.{rises}
+use Rattle.mentions_ranges.specs.Stretches.{both}
+use Rattle.mentions_ranges.specs.SuffixStretches.{joins, suffixes_rise}
+use Rattle.mentions_blocks.specs.Collapsed.{cut_of}
+use Rattle.mentions_blocks.specs.Parts.{shown_at}
+use Rattle.mentions_blocks.specs.declared.collapsed.YearCut.{YearCut}
+use Rattle.mentions_blocks.specs.declared.collapsed.YearDelimiter.{YearDelimiter}
+use Rattle.mentions_arranging.specs.Collapsing.{names_shown, numbered_cite, shown_cite, suffixed_cite}
+use Rattle.mentions_arranging.specs.Order.{collapses_years}
+use Rattle.mentions_arranging.specs.declared.arranged.ArrangedCite.{ArrangedCite}
+use Rattle.mentions_arranging.specs.declared.positioned.PositionedCite.{PositionedCite}
 use Rattle.mentions_laws.specs.Cuts.{NamesStandBefore}
 use Rattle.mentions_laws.specs.Parts.{HasParts}
 

@@ -2,23 +2,23 @@
 -- than their mentions.
 use Rattle.std.specs.Prelude.{◌≡◌, ℕ, ◌||◌, All, List, None, Some, option_map, slice_get}
 use Rattle.std.specs.List.{AllZip, zip}
-use Rattle.csl_lookup.specs.Properties.{LocatorValue}
-use Rattle.csl_lookup.specs.declared.state.DisambiguateState.{DisambiguateState}
-use Rattle.csl_notes.specs.declared.notes.CiteNotes.{CiteNotes}
-use Rattle.csl_notes.specs.declared.repeats.Position.{Position}
-use Rattle.csl_arranging.specs.Collapsing.{collapse_of}
-use Rattle.csl_arranging.specs.Order.{final_request}
-use Rattle.csl_arranging.specs.Requests.{Request as Arranged}
-use Rattle.csl_arranging.specs.declared.arranged.ArrangedCite.{ArrangedCite}
-use Rattle.csl_arranging.specs.declared.positioned.PositionedCite.{PositionedCite}
-use Rattle.csl_arranging.specs.declared.request.FinalCite.{FinalCite}
-use Rattle.csl_arranging.specs.declared.request.RequestedCite.{RequestedCite as PlainCite}
-use Rattle.csl_passes.specs.Renders.{CiteRender, ItemRender}
-use Rattle.csl_passes.specs.Request.{Request}
-use Rattle.csl_told_cites.specs.Arranging.{delimiter_of, ibid_of, verdict_of}
-use Rattle.csl_told_cites.specs.Mentions.{mention_of, unshown}
-use Rattle.csl_told_cites.specs.Requests.{request_facts}
-use Rattle.csl_told_cites.specs.declared.mentions.ToldMention.{ToldMention}
+use Rattle.driver_lookup.specs.Properties.{LocatorValue}
+use Rattle.driver_lookup.specs.declared.state.DisambiguateState.{DisambiguateState}
+use Rattle.mentions_notes.specs.declared.notes.CiteNotes.{CiteNotes}
+use Rattle.mentions_notes.specs.declared.repeats.Position.{Position}
+use Rattle.mentions_arranging.specs.Collapsing.{collapse_of}
+use Rattle.mentions_arranging.specs.Order.{final_request}
+use Rattle.mentions_arranging.specs.Requests.{Request as Arranged}
+use Rattle.mentions_arranging.specs.declared.arranged.ArrangedCite.{ArrangedCite}
+use Rattle.mentions_arranging.specs.declared.positioned.PositionedCite.{PositionedCite}
+use Rattle.mentions_arranging.specs.declared.request.FinalCite.{FinalCite}
+use Rattle.mentions_arranging.specs.declared.request.RequestedCite.{RequestedCite as PlainCite}
+use Rattle.driver_passes.specs.Renders.{CiteRender, ItemRender}
+use Rattle.driver_passes.specs.Request.{Request}
+use Rattle.mentions_cites.specs.Arranging.{delimiter_of, ibid_of, verdict_of}
+use Rattle.mentions_cites.specs.Mentions.{mention_of, unshown}
+use Rattle.mentions_cites.specs.Requests.{request_facts}
+use Rattle.mentions_cites.specs.declared.mentions.ToldMention.{ToldMention}
 use Rattle.mentions_laws.specs.Arranged.{AreArranged}
 
 -- a cite but for what it shows, and for the names by which it is brought together with others

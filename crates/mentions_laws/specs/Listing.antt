@@ -1,14 +1,14 @@
 -- Each cited entry is listed once in the bibliography, under its key, and no other.
 use Rattle.std.specs.Prelude.{◌≡◌, Bool, IfSome, List, Option, Some, is_some, length, map}
-use Rattle.csl_assembly.specs.declared.rendered.RenderedBibliography.{RenderedBibliography}
+use Rattle.driver_assembly.specs.declared.rendered.RenderedBibliography.{RenderedBibliography}
 use Rattle.csl_driver.specs.Answer.{Job}
 use Rattle.csl_driver.specs.CslAnswer.{listed}
 use Rattle.csl_driver.specs.ListedOnce.{EqualHaveEqualKeys, key_of, keys_of}
-use Rattle.csl_entries.specs.Entries.{is_in}
-use Rattle.csl_entries.specs.Laws.{NoTwoEqual}
-use Rattle.csl_passes.specs.Renders.{CiteRender, ItemRender}
-use Rattle.csl_positions.specs.FinalProperties.{first_item}
-use Rattle.csl_writers.specs.Writing.{Writing}
+use Rattle.driver_entries.specs.Entries.{is_in}
+use Rattle.driver_entries.specs.Laws.{NoTwoEqual}
+use Rattle.driver_passes.specs.Renders.{CiteRender, ItemRender}
+use Rattle.driver_positions.specs.FinalProperties.{first_item}
+use Rattle.driver_writers.specs.Writing.{Writing}
 
 -- the bibliography of an answer, by these cites, where the account has these entries
 pub record ListsEntriesOnce {E P : Type 0} (eq : E → E → Bool) (writing : Writing E P)

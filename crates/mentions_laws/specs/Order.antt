@@ -1,8 +1,8 @@
 -- Blocks stand in the order of their first cites.
 use Rattle.std.specs.Prelude.{◌≡◌, ℕ, ◌<◌, ◌≤◌, Bool, true, List, Some, slice_get}
-use Rattle.csl_blocks.specs.Blocks.{placed_cites}
-use Rattle.csl_blocks.specs.declared.blocks.GroupedCite.{GroupedCite}
-use Rattle.csl_blocks.specs.declared.blocks.PlacedCite.{PlacedCite}
+use Rattle.mentions_blocks.specs.Blocks.{placed_cites}
+use Rattle.mentions_blocks.specs.declared.blocks.GroupedCite.{GroupedCite}
+use Rattle.mentions_blocks.specs.declared.blocks.PlacedCite.{PlacedCite}
 
 -- the cites of a request, which are brought into blocks or aren't, and where each of them stands in
 -- their final order, with the place of the first cite of its block

@@ -1,8 +1,8 @@
 -- The parts of a request's cites in their final order, without reading how they are found.
 use Rattle.std.specs.Prelude.{◌≡◌, ◌⊎◌, ℕ, suc, ◌<◌, Bool, true, List, None, Some, nat_eq, slice_get}
-use Rattle.csl_runs.specs.Stretches.{both}
-use Rattle.csl_blocks.specs.Parts.{shown_at}
-use Rattle.csl_blocks.specs.declared.parts.ShownCite.{ShownCite}
+use Rattle.mentions_ranges.specs.Stretches.{both}
+use Rattle.mentions_blocks.specs.Parts.{shown_at}
+use Rattle.mentions_blocks.specs.declared.parts.ShownCite.{ShownCite}
 
 -- of cites, by their blocks and the names that they show
 module _ (cites : List ShownCite) where

@@ -1,9 +1,9 @@
 //! An entry as an item.
 use crate::inheritance::{Field, Whole};
-use crate::languages::language_of;
-use crate::lists::members_of;
-use crate::strings::small;
-use crate::tables::{is_article, is_part_of_book, is_silent, type_of};
+use reference_fields::languages::language_of;
+use reference_fields::lists::members_of;
+use reference_fields::strings::small;
+use reference_fields::tables::{is_article, is_part_of_book, is_silent, type_of};
 use reference_items::item::Item;
 use reference_items::reading::Loss;
 use reference_latex::run::{Run, plain};

@@ -1,7 +1,7 @@
 //! Addresses and identifiers of items.
 use crate::conversion::Conversion;
-use crate::genres::archive_of;
-use crate::strings::small;
+use reference_fields::genres::archive_of;
+use reference_fields::strings::small;
 use reference_latex::text::address_of;
 use std::alloc::AllocError;
 

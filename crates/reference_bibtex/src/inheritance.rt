@@ -1,7 +1,7 @@
 //! What entries inherit by `crossref` and `xdata`.
 use crate::entry::BibEntry;
-use crate::strings::small;
-use crate::tables::{is_part_of_book, is_whole_book};
+use reference_fields::strings::small;
+use reference_fields::tables::{is_part_of_book, is_whole_book};
 use std::alloc::{AllocError, Global};
 use std::collections::BTreeMap;
 use std::mem::replace;

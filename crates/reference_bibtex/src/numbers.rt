@@ -1,6 +1,6 @@
 //! Numbers of items.
 use crate::conversion::Conversion;
-use crate::tables::{is_article, is_part_of_book, is_whole_book};
+use reference_fields::tables::{is_article, is_part_of_book, is_whole_book};
 use std::alloc::{AllocError, Global};
 
 /// The variables of numbers that have fields of their own.

@@ -1,9 +1,9 @@
 //! Names and dates of items.
 use crate::conversion::Conversion;
-use crate::dates::{DateReading, date_of};
-use crate::months::{is_month, is_number, is_season, month_number};
-use crate::names::names_of;
-use crate::tables::{ROLES, editor_variable};
+use reference_fields::dates::{DateReading, date_of};
+use reference_fields::months::{is_month, is_number, is_season, month_number};
+use reference_fields::names::names_of;
+use reference_fields::tables::{ROLES, editor_variable};
 use reference_items::item::{DateNumbers, ItemDate, ItemName, MemberValue};
 use reference_latex::text::plain_of;
 use std::alloc::{AllocError, Global};

@@ -3,13 +3,13 @@
 /// The place of the beginning of an entry, from which those of its faults are counted.
 #[derive(Clone, Copy)]
 pub(crate) struct Places {
-    pub(crate) line: usize,
-    pub(crate) column: usize,
+    pub line: usize,
+    pub column: usize,
 }
 
 impl Places {
     /// The place behind a text that begins here.
-    pub(crate) fn behind(self, text: &str) -> Places {
+    pub fn behind(self, text: &str) -> Places {
         match text.rsplit_once('\n') {
             Some((before, line)) => Places {
                 line: self

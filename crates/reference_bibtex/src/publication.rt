@@ -1,9 +1,9 @@
 //! Publishers and places of items, and what is said of the publication.
 use crate::conversion::{Conversion, push_member};
-use crate::genres::{country_of, genre_of, state_of};
-use crate::lists::members_of;
-use crate::strings::small;
 use crate::titles::joined_by;
+use reference_fields::genres::{country_of, genre_of, state_of};
+use reference_fields::lists::members_of;
+use reference_fields::strings::small;
 use reference_latex::text::csl_text;
 use std::alloc::AllocError;
 

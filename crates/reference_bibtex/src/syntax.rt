@@ -2,7 +2,7 @@
 use crate::cursor::{Cursor, before_next_entry};
 use crate::entry::{BibEntry, BibField, Problem};
 use crate::places::{Places, text_before};
-use crate::strings::{Added, LONGEST_STRING, Strings, small};
+use reference_fields::strings::{Added, LONGEST_STRING, Strings, small};
 use reference_items::reading::Fault;
 use std::alloc::{AllocError, Global};
 

@@ -1,7 +1,7 @@
 //! Titles of items.
 use crate::conversion::Conversion;
-use crate::strings::small;
-use crate::tables::is_whole_book;
+use reference_fields::strings::small;
+use reference_fields::tables::is_whole_book;
 use reference_latex::run::before_colon;
 use reference_latex::text::csl_title;
 use std::alloc::{AllocError, Global};

@@ -125,9 +125,9 @@ fn add_line(value: &mut String, line: &str) -> Result<(), AllocError> {
 }
 
 /// The tag with which a line begins, and what it says. A tag is a capital and a capital or a digit,
-/// behind which stand spaces and a hyphen.
+/// behind which stand spaces and a hyphen; blanks may stand before it.
 fn tagged(line: &str) -> Option<(&str, &str)> {
-    let line = line.trim_start_matches('\u{feff}');
+    let line = line.trim_start_matches(|c: char| matches!(c, '\u{feff}' | ' ' | '\t'));
     let (tag, behind) = line.split_at_checked(2)?;
     let is_tag = tag.starts_with(|c: char| c.is_ascii_uppercase())
         && tag

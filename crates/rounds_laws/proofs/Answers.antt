@@ -5,9 +5,9 @@ use Rattle.std.specs.Cmp.{IsEquivalence}
 use Rattle.std.specs.List.{AllZip, enumerate_from}
 use Rattle.std.proofs.Math.ListN.{length-map}
 use Rattle.std.proofs.Math.Seq.{length-take-le}
-use Rattle.csl_assembly.specs.declared.rendered.Rendered.{Rendered}
-use Rattle.csl_collapse.specs.Collapsed.{collapsed_finally}
-use Rattle.csl_collapse.proofs.ReadBack.{all-read-back}
+use Rattle.driver_assembly.specs.declared.rendered.Rendered.{Rendered}
+use Rattle.rounds_grouping.specs.Collapsed.{collapsed_finally}
+use Rattle.rounds_grouping.proofs.ReadBack.{all-read-back}
 use Rattle.csl_driver.specs.Account.{where_listed}
 use Rattle.csl_driver.specs.Answer.{Job, entries_listed, final_number, in_final_order, in_the_end, numbered_finally, rendered_first, used_order}
 use Rattle.csl_driver.specs.AnswerLaws.{AreInOrder, ComeFrom, IsBroughtTogether, IsReadBack, IsSettled, KeepsLaws, entries_in, number_in, numbers_in, unsettled}
@@ -25,26 +25,26 @@ use Rattle.csl_driver.proofs.ListedKeys.{lists-each-once}
 use Rattle.csl_driver.proofs.OwnCites.{settled-own}
 use Rattle.csl_driver.proofs.ShownTrees.{citations-shown}
 use Rattle.csl_driver.proofs.Standing.{drawn-requests, final-stand, grouped-request, ordered-stand, same-changed}
-use Rattle.csl_entries.specs.Entries.{bibliography_order, distinct, is_in, number}
-use Rattle.csl_entries.specs.Table.{table_of}
-use Rattle.csl_entries.proofs.Distinct.{is_in-distinct}
-use Rattle.csl_entries.proofs.Once.{holds_each_once, length-bibliography_order, without_gaps}
-use Rattle.csl_entries.proofs.Placed.{map-map}
-use Rattle.csl_grouping.specs.Blocks.{grouped}
-use Rattle.csl_grouping.proofs.FinalOrders.{grouped-ordered}
-use Rattle.csl_passes.specs.Renders.{CiteRender}
-use Rattle.csl_passes.specs.Request.{Request, cited, cites_of}
-use Rattle.csl_passes.specs.declared.first.FirstProperties.{FirstProperties}
-use Rattle.csl_positions.specs.FinalProperties.{cited_finally, items_before, with_final, with_final_items, with_final_properties}
-use Rattle.csl_positions.specs.FirstProperties.{first_properties}
-use Rattle.csl_round_laws.specs.FirstRenders.{first_renders}
-use Rattle.csl_round_laws.specs.Rerenders.{rerenders}
-use Rattle.csl_round_laws.specs.RoundMarks.{has_any}
-use Rattle.csl_round_laws.specs.Rounds.{StateTable, no_states, told_by, with_marks}
-use Rattle.csl_round_laws.specs.RunLaws.{Ended, IsLawful}
-use Rattle.csl_round_laws.specs.Tables.{disambiguated, last_table, marked_at, marks_at, most_rounds, rounds, tables, tables_from}
-use Rattle.csl_round_laws.specs.declared.mode.RoundMode.{RoundMode}
-use Rattle.csl_writers.specs.Writing.{Writing}
+use Rattle.driver_entries.specs.Entries.{bibliography_order, distinct, is_in, number}
+use Rattle.driver_entries.specs.Table.{table_of}
+use Rattle.driver_entries.proofs.Distinct.{is_in-distinct}
+use Rattle.driver_entries.proofs.Once.{holds_each_once, length-bibliography_order, without_gaps}
+use Rattle.driver_entries.proofs.Placed.{map-map}
+use Rattle.rounds_grouping.specs.Blocks.{grouped}
+use Rattle.rounds_grouping.proofs.FinalOrders.{grouped-ordered}
+use Rattle.driver_passes.specs.Renders.{CiteRender}
+use Rattle.driver_passes.specs.Request.{Request, cited, cites_of}
+use Rattle.driver_passes.specs.declared.first.FirstProperties.{FirstProperties}
+use Rattle.driver_positions.specs.FinalProperties.{cited_finally, items_before, with_final, with_final_items, with_final_properties}
+use Rattle.driver_positions.specs.FirstProperties.{first_properties}
+use Rattle.rounds_runs.specs.FirstRenders.{first_renders}
+use Rattle.rounds_runs.specs.Rerenders.{rerenders}
+use Rattle.rounds_runs.specs.RoundMarks.{has_any}
+use Rattle.rounds_runs.specs.Rounds.{StateTable, no_states, told_by, with_marks}
+use Rattle.rounds_runs.specs.RunLaws.{Ended, IsLawful}
+use Rattle.rounds_runs.specs.Tables.{disambiguated, last_table, marked_at, marks_at, most_rounds, rounds, tables, tables_from}
+use Rattle.rounds_runs.specs.declared.mode.RoundMode.{RoundMode}
+use Rattle.driver_writers.specs.Writing.{Writing}
 use Rattle.rounds_laws.specs.BlockLaws.{FormBlocks}
 use Rattle.rounds_laws.specs.CollapseLaws.{DoCollapse}
 use Rattle.rounds_laws.specs.FurtherLaws.{CountsRenders, KeepsFurtherLaws, listed_in, marks_of_rounds}

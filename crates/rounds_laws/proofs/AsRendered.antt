@@ -3,13 +3,13 @@ use Rattle.std.proofs.Common.{List, [], ◌∷◌, Option, Some, None, map, refl
 use Rattle.std.specs.Prelude.{All, zip}
 use Rattle.std.proofs.lemmas.List.Elements.{All-cons, All-nil}
 use Rattle.csl_driver.proofs.Standing.{all-mapped}
-use Rattle.csl_lookup.specs.declared.state.DisambiguateState.{DisambiguateState}
-use Rattle.csl_passes.specs.Renders.{CiteRender, ItemRender}
-use Rattle.csl_passes.specs.Request.{Request, RequestedCite}
-use Rattle.csl_passes.specs.declared.first.FirstProperties.{FirstProperties}
-use Rattle.csl_round_laws.specs.FirstRenders.{first_render, first_renders, first_renders_of}
-use Rattle.csl_round_laws.specs.Rounds.{StateTable, at_table, request_at, with_any}
-use Rattle.csl_writers.specs.Writing.{Writing}
+use Rattle.driver_lookup.specs.declared.state.DisambiguateState.{DisambiguateState}
+use Rattle.driver_passes.specs.Renders.{CiteRender, ItemRender}
+use Rattle.driver_passes.specs.Request.{Request, RequestedCite}
+use Rattle.driver_passes.specs.declared.first.FirstProperties.{FirstProperties}
+use Rattle.rounds_runs.specs.FirstRenders.{first_render, first_renders, first_renders_of}
+use Rattle.rounds_runs.specs.Rounds.{StateTable, at_table, request_at, with_any}
+use Rattle.driver_writers.specs.Writing.{Writing}
 use Rattle.rounds_laws.specs.FurtherLaws.{IsAsRendered}
 
 module _ {E P : Type 0} (writing : Writing E P) where

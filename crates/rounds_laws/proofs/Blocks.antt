@@ -6,17 +6,17 @@ use Rattle.std.specs.Option.{option_or}
 use Rattle.std.proofs.Math.ListN.{length-map}
 use Rattle.std.proofs.lemmas.List.{map-append}
 use Rattle.std.proofs.lemmas.List.Elements.{filter-append}
-use Rattle.csl_entries.specs.Entries.{place}
-use Rattle.csl_entries.proofs.Once.{NoTwoEqual-distinct, NoTwoEqual-filter, without_gaps}
-use Rattle.csl_grouping.specs.BlockKeys.{BlockKey, is_named, key_of, same_key}
-use Rattle.csl_grouping.specs.Blocks.{block, block_index, block_keys, final_order, group_delimiter, grouped, grouped_cites, in_block, is_grouped, with_block}
-use Rattle.csl_grouping.specs.FinalOrder.{HasFinalOrder}
-use Rattle.csl_grouping.proofs.FinalOrders.{grouped-ordered}
-use Rattle.csl_grouping.proofs.KeyLaws.{key_laws}
-use Rattle.csl_grouping.proofs.OrderLaws.{ordered, together}
-use Rattle.csl_grouping.proofs.Whole.{final-permuted}
-use Rattle.csl_passes.specs.Renders.{CiteRender, ItemRender}
-use Rattle.csl_style_values.specs.Style.{CitationValue}
+use Rattle.driver_entries.specs.Entries.{place}
+use Rattle.driver_entries.proofs.Once.{NoTwoEqual-distinct, NoTwoEqual-filter, without_gaps}
+use Rattle.rounds_grouping.specs.BlockKeys.{BlockKey, is_named, key_of, same_key}
+use Rattle.rounds_grouping.specs.Blocks.{block, block_index, block_keys, final_order, group_delimiter, grouped, grouped_cites, in_block, is_grouped, with_block}
+use Rattle.rounds_grouping.specs.FinalOrder.{HasFinalOrder}
+use Rattle.rounds_grouping.proofs.FinalOrders.{grouped-ordered}
+use Rattle.rounds_grouping.proofs.KeyLaws.{key_laws}
+use Rattle.rounds_grouping.proofs.OrderLaws.{ordered, together}
+use Rattle.rounds_grouping.proofs.Whole.{final-permuted}
+use Rattle.driver_passes.specs.Renders.{CiteRender, ItemRender}
+use Rattle.value_styles.specs.Style.{CitationValue}
 use Rattle.rounds_laws.specs.BlockLaws.{AreInBlocks, FormBlocks, begins_block, block_indexes, block_places}
 use Rattle.rounds_laws.proofs.Laid.{AreKept, Laid, NonEmpty, blocks-laid, kept, laid-first, laid-index, laid-other, laid-same, laid_block}
 use Rattle.rounds_laws.proofs.Rising.{below-pairs, first_place, firsts-rise, rise-numbered}

@@ -4,9 +4,9 @@ use Rattle.std.specs.Prelude.{filter, is_some}
 use Rattle.std.proofs.Math.ListN.{length-map}
 use Rattle.std.proofs.lemmas.List.{length-append}
 use Rattle.std.proofs.lemmas.List.Sums.{sum_by-cons}
-use Rattle.csl_passes.specs.Request.{Request, cited, cites_of}
-use Rattle.csl_round_laws.specs.Rerenders.{marked_among, rerenders}
-use Rattle.csl_round_laws.specs.Rounds.{StateTable}
+use Rattle.driver_passes.specs.Request.{Request, cited, cites_of}
+use Rattle.rounds_runs.specs.Rerenders.{marked_among, rerenders}
+use Rattle.rounds_runs.specs.Rounds.{StateTable}
 
 filtered : {X : Type 0} (p : X → Bool) (xs : List X) → length (filter p xs) ≤ length xs
 filtered p [] = omega arith

@@ -2,15 +2,15 @@
 use Rattle.std.proofs.Common.{◌≡◌, ℕ, zero, suc, ◌≤◌, ◌⊎◌, inl, inr, Bool, true, false, not, ◌&&◌, List, map, refl, ap, sym, subst, ◌∙◌, true≢false, arith, add-one}
 use Rattle.std.specs.Prelude.{Option, None, Some, if◌then◌else◌, option_and_then, option_map, slice_get}
 use Rattle.std.specs.Cmp.{unsigned_Decides}
-use Rattle.std.proofs.lemmas.Bool.{and_parts, and_from}
-use Rattle.csl_collapse.specs.Steps.{is_same}
-use Rattle.csl_collapse.specs.Stretches.{after_collapse}
-use Rattle.csl_collapse.specs.YearStretches.{cut_to_date, cut_to_suffix, follows_stretch, group_at, has_later_suffix, is_later_in_stretch, year_collapsed}
-use Rattle.csl_collapse.proofs.StretchLemmas.{follows, later, later_at, was_later_at}
-use Rattle.csl_collapse.proofs.Tests.{clash, fails}
-use Rattle.csl_passes.specs.ByPlaces.{by_places}
-use Rattle.csl_passes.specs.Renders.{ItemRender}
-use Rattle.csl_style_values.specs.Style.{CitationValue}
+use Rattle.std.proofs.lemmas.Bool.{and_from, and_parts, not-true, not_from_false}
+use Rattle.rounds_grouping.specs.CollapseSteps.{is_same}
+use Rattle.rounds_grouping.specs.Stretches.{after_collapse}
+use Rattle.rounds_grouping.specs.YearStretches.{cut_to_date, cut_to_suffix, follows_stretch, group_at, has_later_suffix, is_later_in_stretch, year_collapsed}
+use Rattle.rounds_grouping.proofs.StretchLemmas.{follows, later, later_at, was_later_at}
+use Rattle.list_lemmas.proofs.Tests.{clash, fails}
+use Rattle.driver_passes.specs.ByPlaces.{by_places}
+use Rattle.driver_passes.specs.Renders.{ItemRender}
+use Rattle.value_styles.specs.Style.{CitationValue}
 use Rattle.rounds_laws.specs.BlockLaws.{block_at}
 use Rattle.rounds_laws.specs.CollapseLaws.{FollowsBlock, FollowsOwn, FollowsWhole, YearsCollapse, verdict_at}
 use Rattle.rounds_laws.proofs.Places.{at-place, read-at}
@@ -28,13 +28,6 @@ shared (Some m) (Some n) h = record { block = m; first = refl; second = ap Some 
 
 of-shared : (x y : Option ℕ) (m : ℕ) → x ≡ Some m → y ≡ Some m → is_same x y ≡ true
 of-shared x y m e f = (λ i. is_same (e i) (f i)) ∙ (unsigned_Decides m m).1 refl
-
-of-not : (a : Bool) → a ≡ false → not a ≡ true
-of-not a e = ap not e
-
-from-not : (a : Bool) → not a ≡ true → a ≡ false
-from-not true h = absurd (true≢false (sym h))
-from-not false h = refl
 
 module _ {E P : Type 0} (citation : CitationValue) (to_suffixes : Bool) (cites : List (ItemRender E P)) where
   abbrev gs : List (Option ℕ)
@@ -71,7 +64,7 @@ module _ {E P : Type 0} (citation : CitationValue) (to_suffixes : Bool) (cites :
   none-own k isnt = fails (later_at gs k) (λ h. isnt (test-own k h))
 
   behind-test : (k : ℕ) → FollowsBlock cites k → follows_stretch gs k ≡ true
-  behind-test k h = follows gs k ∙ and_from (was_later_at gs k) (not (later_at gs k)) was (of-not _ (none-own k h.other))
+  behind-test k h = follows gs k ∙ and_from (was_later_at gs k) (not (later_at gs k)) was (not_from_false _ (none-own k h.other))
     where
       was : was_later_at gs k ≡ true
       was = subst (λ j. was_later_at gs j ≡ true) (sym (h.directly ∙ add-one h.before)) (own-test h.before h.after_own)
@@ -80,7 +73,7 @@ module _ {E P : Type 0} (citation : CitationValue) (to_suffixes : Bool) (cites :
   test-behind zero h = absurd (true≢false (sym (sym (follows gs zero) ∙ h)))
   test-behind (suc k) h =
       let p = and_parts (later_at gs k) (not (later_at gs (suc k))) (sym (follows gs (suc k)) ∙ h) in
-      record { before = k; directly = sym (add-one k); after_own = test-own k p.0; other = λ own. clash (later_at gs (suc k)) (own-test (suc k) own) (from-not _ p.1) }
+      record { before = k; directly = sym (add-one k); after_own = test-own k p.0; other = λ own. clash (later_at gs (suc k)) (own-test (suc k) own) (not-true _ p.1) }
 
   -- what stands at k, by the two tests
   done-at : (k : ℕ) (o : Option (ItemRender E P)) → slice_get cites k ≡ o → (l f : Bool) → is_later_in_stretch gs k ≡ l → follows_stretch gs k ≡ f

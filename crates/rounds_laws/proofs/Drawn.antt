@@ -1,15 +1,15 @@
 -- What is to collapse does.
 use Rattle.std.proofs.Common.{◌≡◌, Bool, true, false, List, Option, Some, None, refl, sym, ◌∙◌, true≢false}
 use Rattle.std.specs.Prelude.{if◌then◌else◌}
-use Rattle.csl_collapse.specs.Collapsed.{collapsed, collapsed_cites, collapsed_finally}
-use Rattle.csl_collapse.specs.Stretches.{after_collapse}
-use Rattle.csl_collapse.proofs.ReadBack.{all-read-back}
-use Rattle.csl_passes.specs.Purposes.{has_no_purpose}
-use Rattle.csl_passes.specs.Renders.{CiteRender, ItemRender}
-use Rattle.csl_style_values.specs.Style.{CitationValue}
-use Rattle.csl_style_values.specs.declared.style.Collapse.{Collapse}
-use Rattle.csl_style_values.specs.declared.style.Collapse.TheVariants.{CitationNumber, Year, YearSuffix, YearSuffixRanged}
-use Rattle.csl_collapse.specs.YearStretches.{cut_to_date, cut_to_suffix, has_later_suffix}
+use Rattle.rounds_grouping.specs.Collapsed.{collapsed, collapsed_cites, collapsed_finally}
+use Rattle.rounds_grouping.specs.Stretches.{after_collapse}
+use Rattle.rounds_grouping.proofs.ReadBack.{all-read-back}
+use Rattle.driver_passes.specs.Purposes.{has_no_purpose}
+use Rattle.driver_passes.specs.Renders.{CiteRender, ItemRender}
+use Rattle.value_styles.specs.Style.{CitationValue}
+use Rattle.value_styles.specs.declared.style.Collapse.{Collapse}
+use Rattle.value_styles.specs.declared.style.Collapse.TheVariants.{CitationNumber, Year, YearSuffix, YearSuffixRanged}
+use Rattle.rounds_grouping.specs.YearStretches.{cut_to_date, cut_to_suffix, has_later_suffix}
 use Rattle.rounds_laws.specs.CollapseLaws.{DoCollapse, NumbersCollapse, YearsCollapse, collapses_years, cuts_to_suffixes}
 use Rattle.std.specs.Prelude.{◌&&◌}
 use Rattle.rounds_laws.proofs.Cuts.{years-collapse}

@@ -3,17 +3,17 @@ use Rattle.std.proofs.Common.{◌≡◌, ℕ, zero, suc, ◌+◌, ◌≤◌, Boo
 use Rattle.std.specs.Prelude.{filter, is_some, option_and_then, option_map, slice_get}
 use Rattle.std.specs.List.{enumerate_from, flat_map}
 use Rattle.std.proofs.lemmas.Bool.{or_left, or_right}
-use Rattle.csl_collapse.specs.NumberLaws.{override_at}
-use Rattle.csl_entries.specs.Entries.{is_in}
-use Rattle.csl_entries.specs.Laws.{NoTwoEqual}
-use Rattle.csl_entries.proofs.Distinct.{is_in-distinct}
-use Rattle.csl_entries.proofs.Once.{NoTwoEqual-distinct}
-use Rattle.csl_grouping.specs.BlockKeys.{BlockKey, alone, key_of, named, same_key}
-use Rattle.csl_grouping.specs.Blocks.{block, block_index, block_keys, in_block, with_block}
-use Rattle.csl_grouping.proofs.KeyLaws.{equal, key_laws}
-use Rattle.csl_passes.specs.Renders.{ItemRender}
-use Rattle.csl_trees.specs.Tree.{find_elem, has_names}
-use Rattle.csl_trees.specs.declared.elem.Elem.{Elem}
+use Rattle.rounds_grouping.specs.NumberLaws.{override_at}
+use Rattle.driver_entries.specs.Entries.{is_in}
+use Rattle.driver_entries.specs.Laws.{NoTwoEqual}
+use Rattle.driver_entries.proofs.Distinct.{is_in-distinct}
+use Rattle.driver_entries.proofs.Once.{NoTwoEqual-distinct}
+use Rattle.rounds_grouping.specs.BlockKeys.{BlockKey, alone, key_of, named, same_key}
+use Rattle.rounds_grouping.specs.Blocks.{block, block_index, block_keys, in_block, with_block}
+use Rattle.rounds_grouping.proofs.KeyLaws.{equal, key_laws}
+use Rattle.driver_passes.specs.Renders.{ItemRender}
+use Rattle.value_trees.specs.Tree.{find_elem, has_names}
+use Rattle.value_trees.specs.declared.elem.Elem.{Elem}
 use Rattle.rounds_laws.specs.BlockLaws.{NextIsOfBlock, block_at, names_at}
 
 none-next : {X : Type 0} (xs : List X) (k : ℕ) → slice_get xs k ≡ None → slice_get xs (suc k) ≡ None

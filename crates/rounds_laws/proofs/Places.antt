@@ -2,7 +2,7 @@
 use Rattle.std.proofs.Common.{◌≡◌, ℕ, zero, suc, ◌+◌, ◌<◌, List, [], ◌∷◌, length, map, refl, ap, ◌∙◌, arith}
 use Rattle.std.specs.Prelude.{Option, None, Some, option_and_then, option_map, slice_get, slice_index_or}
 use Rattle.std.specs.List.{enumerate_from}
-use Rattle.csl_passes.specs.ByPlaces.{by_places}
+use Rattle.driver_passes.specs.ByPlaces.{by_places}
 
 module _ {X : Type 0} (f : ℕ → X → X) where
   at-from : (b k : ℕ) (xs : List X) → slice_get (map (λ p. f p.0 p.1) (enumerate_from b xs)) k ≡ option_map (f (b + k)) (slice_get xs k)

@@ -3,19 +3,19 @@ use Rattle.std.proofs.Common.{◌≡◌, ℕ, zero, suc, ◌+◌, ◌<◌, ◌�
 use Rattle.std.specs.Prelude.{Option, None, Some, if◌then◌else◌, is_some, option_and_then, option_map, slice_get}
 use Rattle.std.specs.Cmp.{unsigned_Decides}
 use Rattle.std.specs.Option.{option_map_or}
-use Rattle.std.proofs.lemmas.Bool.{and_parts, and_from}
-use Rattle.csl_trees.specs.Metas.{has_meta}
-use Rattle.csl_trees.specs.Tree.{find_elem}
-use Rattle.csl_trees.specs.declared.elem.ElemMeta.TheVariants as meta
-use Rattle.csl_collapse.specs.NumberLaws.{AreNextShown, CanBeReadBack, WasHid, is_hidden, override_at}
-use Rattle.csl_collapse.specs.NumberRuns.{en_dash, ends_collapsed, follows_collapsed, is_inner, number_at, number_collapsed, shown_number}
-use Rattle.csl_collapse.specs.Steps.{is_next}
-use Rattle.csl_collapse.proofs.RunLemmas.{ends, follows, goes_up, inner, rises_to, rose_to, shows, up-from, up-to}
-use Rattle.csl_collapse.proofs.Tests.{clash, fails}
-use Rattle.csl_passes.specs.ByPlaces.{by_places}
-use Rattle.csl_passes.specs.Renders.{ItemRender}
+use Rattle.std.proofs.lemmas.Bool.{and_from, and_parts, not-true, not_from_false}
+use Rattle.value_trees.specs.Metas.{has_meta}
+use Rattle.value_trees.specs.Tree.{find_elem}
+use Rattle.value_trees.specs.declared.elem.ElemMeta.TheVariants as meta
+use Rattle.rounds_grouping.specs.NumberLaws.{AreNextShown, CanBeReadBack, WasHid, is_hidden, override_at}
+use Rattle.rounds_grouping.specs.NumberRuns.{en_dash, ends_collapsed, follows_collapsed, is_inner, number_at, number_collapsed, shown_number}
+use Rattle.rounds_grouping.specs.CollapseSteps.{is_next}
+use Rattle.rounds_grouping.proofs.RunLemmas.{ends, follows, goes_up, inner, rises_to, rose_to, shows, up-from, up-to}
+use Rattle.list_lemmas.proofs.Tests.{clash, fails, or-second}
+use Rattle.driver_passes.specs.ByPlaces.{by_places}
+use Rattle.driver_passes.specs.Renders.{ItemRender}
 use Rattle.rounds_laws.specs.CollapseLaws.{AreInARow, EndsRange, FollowsRange, HasHiddenNumbers, IsMiddle, NumbersCollapse, number_shown_at}
-use Rattle.csl_style_values.specs.declared.style.Collapse.{Collapse}
+use Rattle.value_styles.specs.declared.style.Collapse.{Collapse}
 use Rattle.rounds_laws.proofs.Places.{at-place, read-at, within}
 
 -- both are there, and the second is one more
@@ -34,16 +34,6 @@ is-next x y m e f = (λ i. is_next (e i) (f i)) ∙ (unsigned_Decides (m + 1) (m
 
 same-number : (x : Option ℕ) (m n : ℕ) → x ≡ Some m → x ≡ Some n → m ≡ n
 same-number x m n e f = cc
-
-or-second : (a b : Bool) → a ≡ false → a || b ≡ true → b ≡ true
-or-second a b e h = ap (λ x. x || b) (sym e) ∙ h
-
-of-not : (a : Bool) → a ≡ false → not a ≡ true
-of-not a e = ap not e
-
-from-not : (a : Bool) → not a ≡ true → a ≡ false
-from-not true h = absurd (true≢false (sym h))
-from-not false h = refl
 
 and-false : (a b : Bool) → b ≡ false → a && b ≡ false
 and-false true b e = e
@@ -192,13 +182,13 @@ module _ {E P : Type 0} (after : Option (List ℕ)) (cites : List (ItemRender E 
   }
 
   end-test : (k : ℕ) → IsEnd k → ends_collapsed ns k ≡ true
-  end-test k e = ends ns k ∙ and_from (rose_to ns k && rises_to ns k) (not (goes_up ns k)) (and_from (rose_to ns k) (rises_to ns k) e.rose e.rises) (of-not _ e.ended)
+  end-test k e = ends ns k ∙ and_from (rose_to ns k && rises_to ns k) (not (goes_up ns k)) (and_from (rose_to ns k) (rises_to ns k) e.rose e.rises) (not_from_false _ e.ended)
 
   test-end : (k : ℕ) → ends_collapsed ns k ≡ true → IsEnd k
   test-end k h =
       let p = and_parts (rose_to ns k && rises_to ns k) (not (goes_up ns k)) (sym (ends ns k) ∙ h) in
       let q = and_parts (rose_to ns k) (rises_to ns k) p.0 in
-      record { rose = q.0; rises = q.1; ended = from-not _ p.1 }
+      record { rose = q.0; rises = q.1; ended = not-true _ p.1 }
 
   -- what shows a number right behind such an end
   record IsBehindEnd (k : ℕ) : Type 0 where
@@ -217,7 +207,7 @@ module _ {E P : Type 0} (after : Option (List ℕ)) (cites : List (ItemRender E 
         fails (ends_collapsed ns (suc j)) (λ h. clash (goes_up ns j) (test-end (suc j) h).rises e.ended),
         follows ns (suc j)
             ∙ and_from (rose_to ns j && rises_to ns j && not (goes_up ns j)) (shows ns (suc j))
-            (and_from (rose_to ns j && rises_to ns j) (not (goes_up ns j)) (and_from (rose_to ns j) (rises_to ns j) e.rose e.rises) (of-not _ e.ended)) s,
+            (and_from (rose_to ns j && rises_to ns j) (not (goes_up ns j)) (and_from (rose_to ns j) (rises_to ns j) e.rose e.rises) (not_from_false _ e.ended)) s,
       )
 
   test-behind : (k : ℕ) → follows_collapsed ns k ≡ true → IsBehindEnd k
@@ -226,7 +216,7 @@ module _ {E P : Type 0} (after : Option (List ℕ)) (cites : List (ItemRender E 
       let p = and_parts (rose_to ns j && rises_to ns j && not (goes_up ns j)) (shows ns (suc j)) (sym (follows ns (suc j)) ∙ h) in
       let q = and_parts (rose_to ns j && rises_to ns j) (not (goes_up ns j)) p.0 in
       let r = and_parts (rose_to ns j) (rises_to ns j) q.0 in
-      record { place = j; directly = refl; end = record { rose = r.0; rises = r.1; ended = from-not _ q.1 }; shown = p.1 }
+      record { place = j; directly = refl; end = record { rose = r.0; rises = r.1; ended = not-true _ q.1 }; shown = p.1 }
 
   dash-at : (k : ℕ) → EndsRange cites done k → override_at done k ≡ Some en_dash
   dash-at k h =

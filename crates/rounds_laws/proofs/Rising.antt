@@ -6,8 +6,8 @@ use Rattle.std.specs.List.{enumerate_from}
 use Rattle.std.proofs.lemmas.Bool.{or_left, or_right}
 use Rattle.std.proofs.lemmas.List.Elements.{All-cons, All-nil}
 use Rattle.std.proofs.lemmas.List.Kept.{AllPairs-cons}
-use Rattle.csl_entries.specs.Entries.{distinct, is_in}
-use Rattle.csl_entries.proofs.Distinct.{is_in-distinct}
+use Rattle.driver_entries.specs.Entries.{distinct, is_in}
+use Rattle.driver_entries.proofs.Distinct.{is_in-distinct}
 
 module _ {K : Type 0} (g : K → ℕ) where
   -- a number below that of each key

@@ -1,12 +1,12 @@
 -- What a caller may rely on of the blocks of a request's cites, without reading how they are made.
 use Rattle.std.specs.Prelude.{◌≡◌, ℕ, ◌+◌, ◌<◌, AllPairs, Bool, true, List, None, Option, Some, filter, filter_map, is_none, is_some, length, map, option_and_then, slice_get, zip}
 use Rattle.std.specs.List.{range_with_len}
-use Rattle.csl_collapse.specs.NumberLaws.{override_at}
-use Rattle.csl_grouping.specs.Blocks.{group_delimiter, is_grouped}
-use Rattle.csl_grouping.specs.FinalOrder.{HasFinalOrder}
-use Rattle.csl_passes.specs.Renders.{CiteRender, ItemRender}
-use Rattle.csl_trees.specs.Tree.{find_elem, has_names}
-use Rattle.csl_trees.specs.declared.elem.Elem.{Elem}
+use Rattle.rounds_grouping.specs.NumberLaws.{override_at}
+use Rattle.rounds_grouping.specs.Blocks.{group_delimiter, is_grouped}
+use Rattle.rounds_grouping.specs.FinalOrder.{HasFinalOrder}
+use Rattle.driver_passes.specs.Renders.{CiteRender, ItemRender}
+use Rattle.value_trees.specs.Tree.{find_elem, has_names}
+use Rattle.value_trees.specs.declared.elem.Elem.{Elem}
 
 module _ {E P : Type 0} where
   -- the first names element in the tree of the cite at k, if there is one

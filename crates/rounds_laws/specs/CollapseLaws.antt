@@ -1,16 +1,16 @@
 -- What a caller may rely on of collapsed cites, without reading how ranges and stretches are found:
 -- what is to collapse does, and nothing else changes.
 use Rattle.std.specs.Prelude.{◌≡◌, ℕ, ◌+◌, ◌<◌, ◌≤◌, Bool, true, false, ◌&&◌, List, Option, Some, if◌then◌else◌, is_some, option_and_then, slice_get}
-use Rattle.csl_collapse.specs.NumberLaws.{AreCollapsed, AreNextShown, WasHid, is_hidden, override_at}
-use Rattle.csl_collapse.specs.NumberRuns.{en_dash, shown_number}
-use Rattle.csl_collapse.specs.Stretches.{after_collapse}
-use Rattle.csl_collapse.specs.YearStretches.{cut_to_date, cut_to_suffix, has_later_suffix}
-use Rattle.csl_lookup.specs.declared.state.CollapseVerdict.{CollapseVerdict}
-use Rattle.csl_passes.specs.Purposes.{has_no_purpose}
-use Rattle.csl_passes.specs.Renders.{CiteRender, ItemRender}
-use Rattle.csl_style_values.specs.Style.{CitationValue}
-use Rattle.csl_style_values.specs.declared.style.Collapse.{Collapse}
-use Rattle.csl_style_values.specs.declared.style.Collapse.TheVariants.{CitationNumber, Year, YearSuffix, YearSuffixRanged}
+use Rattle.rounds_grouping.specs.NumberLaws.{AreCollapsed, AreNextShown, WasHid, is_hidden, override_at}
+use Rattle.rounds_grouping.specs.NumberRuns.{en_dash, shown_number}
+use Rattle.rounds_grouping.specs.Stretches.{after_collapse}
+use Rattle.rounds_grouping.specs.YearStretches.{cut_to_date, cut_to_suffix, has_later_suffix}
+use Rattle.driver_lookup.specs.declared.state.CollapseVerdict.{CollapseVerdict}
+use Rattle.driver_passes.specs.Purposes.{has_no_purpose}
+use Rattle.driver_passes.specs.Renders.{CiteRender, ItemRender}
+use Rattle.value_styles.specs.Style.{CitationValue}
+use Rattle.value_styles.specs.declared.style.Collapse.{Collapse}
+use Rattle.value_styles.specs.declared.style.Collapse.TheVariants.{CitationNumber, Year, YearSuffix, YearSuffixRanged}
 use Rattle.rounds_laws.specs.BlockLaws.{block_at}
 
 module _ {E P : Type 0} where

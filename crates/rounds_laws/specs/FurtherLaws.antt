@@ -2,19 +2,19 @@
 -- `KeepsLaws` says.
 use Rattle.std.specs.Prelude.{◌≡◌, ℕ, ◌+◌, ◌-◌, ◌*◌, ◌^◌, ◌≤◌, All, Bool, List, None, length, map, min, take}
 use Rattle.std.specs.List.{AllZip}
-use Rattle.csl_assembly.specs.declared.rendered.Rendered.{Rendered}
+use Rattle.driver_assembly.specs.declared.rendered.Rendered.{Rendered}
 use Rattle.csl_driver.specs.Account.{where_listed}
 use Rattle.csl_driver.specs.Answer.{Job, rendered_first}
 use Rattle.csl_driver.specs.AnswerLaws.{KeepsLaws, entries_in}
 use Rattle.csl_driver.specs.declared.account.Account.{Account}
-use Rattle.csl_passes.specs.Renders.{CiteRender, ItemRender}
-use Rattle.csl_passes.specs.Request.{cited, cites_of}
-use Rattle.csl_round_laws.specs.Rerenders.{rerenders}
-use Rattle.csl_round_laws.specs.Rounds.{StateTable}
-use Rattle.csl_round_laws.specs.RunLaws.{last_shown}
-use Rattle.csl_round_laws.specs.Tables.{marked_at}
-use Rattle.csl_round_laws.specs.declared.mode.RoundMode.{RoundMode}
-use Rattle.csl_writers.specs.Writing.{Writing}
+use Rattle.driver_passes.specs.Renders.{CiteRender, ItemRender}
+use Rattle.driver_passes.specs.Request.{cited, cites_of}
+use Rattle.rounds_runs.specs.Rerenders.{rerenders}
+use Rattle.rounds_runs.specs.Rounds.{StateTable}
+use Rattle.rounds_runs.specs.RunLaws.{last_shown}
+use Rattle.rounds_runs.specs.Tables.{marked_at}
+use Rattle.rounds_runs.specs.declared.mode.RoundMode.{RoundMode}
+use Rattle.driver_writers.specs.Writing.{Writing}
 use Rattle.rounds_laws.specs.BlockLaws.{FormBlocks}
 use Rattle.rounds_laws.specs.CollapseLaws.{DoCollapse}
 

@@ -1,21 +1,21 @@
 //! Further laws: of grouping and collapsing, for every list of cites; and of every answer in the
 //! modes three and full.
-ghost use Rattle.csl_assembly.specs.declared.rendered.Rendered.{Rendered};
-ghost use Rattle.csl_collapse.specs.Collapsed.{collapsed_finally};
+ghost use Rattle.driver_assembly.specs.declared.rendered.Rendered.{Rendered};
+ghost use Rattle.rounds_grouping.specs.Collapsed.{collapsed_finally};
 ghost use Rattle.csl_driver.specs.Answer.{Job};
 ghost use Rattle.csl_driver.specs.Promised.{IsExactly};
 ghost use Rattle.csl_driver.specs.declared.account.Account.{Account};
-ghost use Rattle.csl_grouping.specs.Blocks.{grouped};
-ghost use Rattle.csl_passes.specs.Renders.{CiteRender};
-ghost use Rattle.csl_round_laws.specs.declared.mode.RoundMode.{RoundMode};
-ghost use Rattle.csl_writers.specs.Writing.{Writing};
+ghost use Rattle.rounds_grouping.specs.Blocks.{grouped};
+ghost use Rattle.driver_passes.specs.Renders.{CiteRender};
+ghost use Rattle.rounds_runs.specs.declared.mode.RoundMode.{RoundMode};
+ghost use Rattle.driver_writers.specs.Writing.{Writing};
 ghost use Rattle.rounds_laws.specs.BlockLaws.{FormBlocks};
 ghost use Rattle.rounds_laws.specs.CollapseLaws.{DoCollapse};
 ghost use Rattle.rounds_laws.specs.FurtherLaws.{KeepsFurtherLaws};
 
 use csl_base::entry::EntryLike;
 use csl_driver::laws::answers_keep_laws;
-use csl_round_laws::laws::runs_are_lawful;
+use rounds_runs::laws::runs_are_lawful;
 
 /// A law of every answer and its account in the modes three and full: besides the laws of
 /// `answers_keep_laws`, and of the same cites, blocks stand in the order of their first cites, what

@@ -1,9 +1,9 @@
 //! Attributes as values.
+use crate::fault::Wanted;
+use crate::nearest::Nearest;
+use crate::stop::Stop;
 use std::alloc::{AllocError, Global};
-use style_faults::fault::Wanted;
-use style_faults::nearest::Nearest;
-use style_faults::stop::Stop;
-use xml_reader::tree::{Attribute, Element};
+use style_xml::tree::{Attribute, Element};
 
 /// The attribute of this name.
 pub fn attribute<'e>(element: &'e Element, name: &str) -> Option<&'e Attribute> {

@@ -1,8 +1,8 @@
 //! The elements in an element.
+use crate::fault::Wanted;
+use crate::stop::Stop;
 use std::alloc::Global;
-use style_faults::fault::Wanted;
-use style_faults::stop::Stop;
-use xml_reader::tree::{Element, text_of};
+use style_xml::tree::{Element, text_of};
 
 /// CSL's namespace.
 pub const NAMESPACE: &str = "http://purl.org/net/xbiblio/csl";

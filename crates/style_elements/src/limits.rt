@@ -2,8 +2,8 @@
 ghost use Rattle.std.specs.Prelude.{◌≤◌, IfOk};
 ghost use Rattle.style_elements.specs.declared.limits.TheConstants.{MAX_DEPTH, MAX_ELEMENTS};
 
-use macro_order::outline::Size;
-use style_faults::fault::Wanted;
+use crate::fault::Wanted;
+use crate::outline::Size;
 
 /// How many elements a macro or a layout may have.
 pub const MAX_ELEMENTS: u64 = 1_000_000;

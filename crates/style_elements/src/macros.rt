@@ -1,16 +1,16 @@
 //! The macros of a style, and the calls of them.
 use crate::attributes::attribute;
 use crate::children::csl_name;
+use crate::fault::Wanted;
 use crate::limits::check_limits;
-use macro_order::order::{CallOrder, RingCall, call_order};
-use macro_order::outline::{Call, Outline, Size, sizes_of};
+use crate::nearest::Nearest;
+use crate::order::{CallOrder, RingCall, call_order};
+use crate::outline::{Call, Outline, Size, sizes_of};
+use crate::stop::Stop;
 use std::alloc::{AllocError, Global};
 use std::collections::BTreeMap;
-use style_faults::fault::Wanted;
-use style_faults::nearest::Nearest;
-use style_faults::stop::Stop;
 use style_file::element::MacroIndex;
-use xml_reader::tree::{Attribute, Content, Element};
+use style_xml::tree::{Attribute, Content, Element};
 
 /// The macros of a style, by number in the order of the file.
 #[derive(Drop)]

@@ -1,11 +1,11 @@
 //! What stays with a reader on its way through a file.
 use crate::attributes::nearest_row;
+use crate::fault::Wanted;
 use crate::macros::MacroTable;
+use crate::refusal::Refusal;
+use crate::stop::Stop;
+use crate::warning::{Note, Oddity};
 use std::alloc::{AllocError, Global};
-use style_faults::fault::Wanted;
-use style_faults::refusal::Refusal;
-use style_faults::stop::Stop;
-use style_faults::warning::{Note, Oddity};
 
 /// For how many notes it is guessed what was meant.
 const MOST_GUESSES: usize = 1_000;

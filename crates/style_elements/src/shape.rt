@@ -1,12 +1,12 @@
 //! What each element may have.
 use crate::children::csl_name;
+use crate::fault::Wanted;
+use crate::nearest::Nearest;
 use crate::reading::Reading;
+use crate::stop::Stop;
+use crate::warning::Oddity;
 use std::alloc::{AllocError, Global};
-use style_faults::fault::Wanted;
-use style_faults::nearest::Nearest;
-use style_faults::stop::Stop;
-use style_faults::warning::Oddity;
-use xml_reader::tree::{Attribute, Content, Element};
+use style_xml::tree::{Attribute, Content, Element};
 
 /// What an element may have.
 pub struct Shape {

@@ -1,17 +1,17 @@
 //! Words that name variables, item types, locator types and terms.
+use crate::fault::{VariableKinds, Wanted};
+use crate::nearest::Nearest;
 use crate::reading::Reading;
-use csl_vocabulary::item_type::{ITEM_TYPES, ItemType};
-use csl_vocabulary::locator::{LOCATOR_TYPES, LocatorType};
-use csl_vocabulary::term::{PLAIN_TERMS, TermName};
-use csl_vocabulary::variable::{
+use crate::stop::Stop;
+use crate::warning::{Oddity, WordKind};
+use std::alloc::AllocError;
+use style_file::item_type::{ITEM_TYPES, ItemType};
+use style_file::locator::{LOCATOR_TYPES, LocatorType};
+use style_file::term::{PLAIN_TERMS, TermName};
+use style_file::variable::{
     DATE_VARIABLES, DateVariable, NAME_VARIABLES, NUMBER_VARIABLES, NameVariable, NumberVariable,
     TEXT_VARIABLES, Variable,
 };
-use std::alloc::AllocError;
-use style_faults::fault::{VariableKinds, Wanted};
-use style_faults::nearest::Nearest;
-use style_faults::stop::Stop;
-use style_faults::warning::{Oddity, WordKind};
 
 /// The variable of this name. One that CSL 1.0.2 lacks is noted.
 pub fn variable(

@@ -1,8 +1,8 @@
 //! Conditions (CSL 1.0.2, "Choose").
 use crate::element::RenderingElement;
-use csl_vocabulary::item_type::ItemType;
-use csl_vocabulary::locator::LocatorType;
-use csl_vocabulary::variable::{DateVariable, Variable};
+use crate::item_type::ItemType;
+use crate::locator::LocatorType;
+use crate::variable::{DateVariable, Variable};
 
 /// The value of `match`: how many of a branch's tests must hold.
 #[derive(Clone, Copy, PartialEq, Eq)]

@@ -1,6 +1,6 @@
 //! Dates (CSL 1.0.2, "Date" and "Date-part").
 use crate::formatting::{Affixes, Display, Formatting, TextCase};
-use csl_vocabulary::variable::DateVariable;
+use crate::variable::DateVariable;
 
 /// The value of a date's `form`: which date of the locale is written.
 #[derive(Clone, Copy, PartialEq, Eq)]

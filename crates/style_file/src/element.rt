@@ -3,8 +3,8 @@ use crate::choose::Choose;
 use crate::date::Date;
 use crate::formatting::{Affixes, Display, Formatting, TextCase};
 use crate::names::{LabelOptions, Names};
-use csl_vocabulary::term::{TermForm, TermName};
-use csl_vocabulary::variable::{NumberVariable, TextVariable};
+use crate::term::{TermForm, TermName};
+use crate::variable::{NumberVariable, TextVariable};
 
 /// A macro, by its place among the macros of its style.
 #[derive(Clone, Copy, PartialEq, Eq)]

@@ -1,7 +1,7 @@
 //! Locales (CSL 1.0.2, "Locale").
 use crate::date::{DateForm, DatePart};
 use crate::formatting::{Formatting, TextCase};
-use csl_vocabulary::term::{Gender, OrdinalMatch, TermForm, TermName};
+use crate::term::{Gender, OrdinalMatch, TermForm, TermName};
 
 /// The words of a term.
 #[derive(Drop)]

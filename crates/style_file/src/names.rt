@@ -1,8 +1,8 @@
 //! Names (CSL 1.0.2, "Names" and "Inheritable Name Options").
 use crate::element::RenderingElement;
 use crate::formatting::{Affixes, Display, Formatting, TextCase};
-use csl_vocabulary::term::TermForm;
-use csl_vocabulary::variable::NameVariable;
+use crate::term::TermForm;
+use crate::variable::NameVariable;
 
 /// The value of `and`: what stands before the last name.
 #[derive(Clone, Copy, PartialEq, Eq)]

@@ -3,7 +3,7 @@
 use crate::element::{MacroIndex, RenderingElement};
 use crate::formatting::{Affixes, Formatting};
 use crate::names::InheritedNameOptions;
-use csl_vocabulary::variable::Variable;
+use crate::variable::Variable;
 
 /// What a key sorts by.
 #[derive(Clone, Copy, PartialEq, Eq)]

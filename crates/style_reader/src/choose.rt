@@ -1,14 +1,14 @@
 //! The tests of branches.
 use style_elements::attributes::{named, word_value};
 use style_elements::children::{csl_name, missing};
+use style_elements::fault::Wanted;
 use style_elements::reading::Reading;
 use style_elements::shape::{CHOOSE, ELSE_IF, IF, Shape, check};
+use style_elements::stop::Stop;
 use style_elements::tables::{MATCHES, POSITIONS};
 use style_elements::words::{date_variable, item_type, locator_type, variable};
-use style_faults::fault::Wanted;
-use style_faults::stop::Stop;
 use style_file::choose::{Match, Test};
-use xml_reader::tree::{Attribute, Element};
+use style_xml::tree::{Attribute, Element};
 
 /// Refuses a `choose` whose branches aren't in their order.
 pub(crate) fn check_choose(element: &Element, reading: &mut Reading<'_>) -> Result<(), Stop> {

@@ -1,18 +1,18 @@
 //! Dates.
 use crate::formatting::{display_of, formatting_of, setting_of, text_case_of, wording_of};
-use csl_vocabulary::variable::DateVariable;
 use std::alloc::Global;
 use style_elements::attributes::{named, needed, needed_value, text, text_or_empty};
 use style_elements::children::{csl_name, missing};
 use style_elements::reading::Reading;
 use style_elements::shape::{DATE, DATE_PART, LOCALE_DATE, check};
+use style_elements::stop::Stop;
 use style_elements::tables::{DATE_FORMS, DATE_PARTS, DAY_FORMS, MONTH_FORMS, YEAR_FORMS};
 use style_elements::words::date_variable;
-use style_faults::stop::Stop;
 use style_file::date::{Date, DateForm, DateFormat, DatePart, DatePartName, DateParts};
 use style_file::element::RenderingElement;
 use style_file::locale::LocaleDate;
-use xml_reader::tree::Element;
+use style_file::variable::DateVariable;
+use style_xml::tree::Element;
 
 /// The element that a `date` is.
 pub(crate) fn date_of(

@@ -9,10 +9,10 @@ use style_elements::attributes::text_or_empty;
 use style_elements::children::csl_name;
 use style_elements::reading::Reading;
 use style_elements::shape::{ELSE, GROUP, SUBSTITUTE, Shape, check};
-use style_faults::stop::Stop;
+use style_elements::stop::Stop;
 use style_file::choose::{Branch, Choose};
 use style_file::element::{Group, RenderingElement};
-use xml_reader::tree::{Content, Element};
+use style_xml::tree::{Content, Element};
 
 /// The elements in an element, in the order of the file.
 #[cycle(rendering)]

@@ -1,24 +1,24 @@
 //! Reading a file.
 ghost use Rattle.std.specs.Prelude.{IfErr};
-ghost use Rattle.style_faults.specs.Places.{IsErrorIn};
+ghost use Rattle.style_elements.specs.Places.{IsErrorIn};
 
 use crate::locale::locale_of;
 use crate::style::style_of;
 use std::alloc::{AllocError, Global};
 use style_elements::attributes::{attribute, needed};
 use style_elements::children::{NAMESPACE, local_name};
+use style_elements::error::StyleError;
+use style_elements::fault::{Root, Wanted};
 use style_elements::macros::MacroTable;
 use style_elements::reading::Reading;
-use style_faults::error::StyleError;
-use style_faults::fault::{Root, Wanted};
-use style_faults::refusal::Refusal;
-use style_faults::stop::Stop;
-use style_faults::warning::{Note, Oddity, Warning, warnings_of};
+use style_elements::refusal::Refusal;
+use style_elements::stop::Stop;
+use style_elements::warning::{Note, Oddity, Warning, warnings_of};
 use style_file::locale::LocaleFile;
 use style_file::style::StyleFile;
-use xml_reader::error::XmlError;
-use xml_reader::reader::read;
-use xml_reader::tree::Element;
+use style_xml::error::XmlError;
+use style_xml::reader::read;
+use style_xml::tree::Element;
 
 /// What a file is.
 #[derive(Drop)]

@@ -1,13 +1,13 @@
 //! Affixes, formatting, display and text-case.
 use std::alloc::{AllocError, Global};
 use style_elements::attributes::{is_true, named, text_or_empty};
+use style_elements::stop::Stop;
 use style_elements::tables::{
     DISPLAYS, FONT_STYLES, FONT_VARIANTS, FONT_WEIGHTS, TEXT_CASES, TEXT_DECORATIONS,
     VERTICAL_ALIGNS,
 };
-use style_faults::stop::Stop;
 use style_file::formatting::{Affixes, Display, Formatting, TextCase};
-use xml_reader::tree::Element;
+use style_xml::tree::Element;
 
 /// What stands around an element's text, and how the text is set.
 pub(crate) fn setting_of(alloc: Global, element: &Element) -> Result<(Affixes, Formatting), Stop> {

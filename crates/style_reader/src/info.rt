@@ -3,12 +3,12 @@ use std::alloc::Global;
 use style_elements::attributes::{attribute, named, needed, row_value, text};
 use style_elements::children::{child_text, csl_name, needed_child, needed_text};
 use style_elements::reading::Reading;
+use style_elements::stop::Stop;
 use style_elements::tables::{CITATION_FORMATS, FIELDS, LINK_RELATIONS};
+use style_elements::warning::{Oddity, WordKind};
 use style_elements::words::unknown;
-use style_faults::stop::Stop;
-use style_faults::warning::{Oddity, WordKind};
 use style_file::info::{Category, Info, Link, LinkRelation};
-use xml_reader::tree::{Attribute, Element};
+use style_xml::tree::{Attribute, Element};
 
 /// The elements of an `info`. Of those that no value holds nothing is read.
 const PARTS: &[&str] = &[

@@ -1,15 +1,15 @@
 //! What a locale says, in a locale file or in a style.
 use crate::date::locale_date_of;
-use csl_vocabulary::term::{GENDERS, ORDINAL_MATCHES, TERM_FORMS, TermForm, TermName};
 use std::alloc::{AllocError, Global};
 use style_elements::attributes::{named, needed, text, truth};
 use style_elements::children::{csl_name, missing, only_child};
 use style_elements::reading::Reading;
 use style_elements::shape::{LOCALE, STYLE_OPTIONS, TERM, TERMS, check};
+use style_elements::stop::Stop;
 use style_elements::words::term_name;
-use style_faults::stop::Stop;
 use style_file::locale::{Locale, LocaleDate, LocaleOptions, StyleLocale, Term, TermWords};
-use xml_reader::tree::{Element, text_of};
+use style_file::term::{GENDERS, ORDINAL_MATCHES, TERM_FORMS, TermForm, TermName};
+use style_xml::tree::{Element, text_of};
 
 /// The locales of a style, in the order of the file.
 pub(crate) fn style_locales(

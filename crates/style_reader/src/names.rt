@@ -1,24 +1,24 @@
 //! Names and labels.
 use crate::formatting::{display_of, formatting_of, setting_of, text_case_of, wording_of};
-use csl_vocabulary::term::{TERM_FORMS, TermForm};
-use csl_vocabulary::variable::NameVariable;
 use std::alloc::Global;
 use style_elements::attributes::{attribute, named, needed_value, number, text, truth};
 use style_elements::children::{csl_name, only_child};
+use style_elements::fault::Wanted;
 use style_elements::reading::Reading;
 use style_elements::shape::{ET_AL, NAME, NAME_PART, NAMES, NAMES_LABEL, check};
+use style_elements::stop::Stop;
 use style_elements::tables::{
     DELIMITER_PRECEDES, ET_AL_TERMS, LABEL_PLURALS, NAME_ANDS, NAME_FORMS, NAME_ORDERS,
 };
 use style_elements::words::name_variable;
-use style_faults::fault::Wanted;
-use style_faults::stop::Stop;
 use style_file::element::RenderingElement;
 use style_file::names::{
     DelimiterPrecedes, EtAl, EtAlTerm, InheritedNameOptions, LabelOptions, LabelPlural, LabelSide,
     Name, NameAsSortOrder, NameOptions, NamePart, Names, NamesLabel,
 };
-use xml_reader::tree::Element;
+use style_file::term::{TERM_FORMS, TermForm};
+use style_file::variable::NameVariable;
+use style_xml::tree::Element;
 
 /// Refuses a `names` with elements that it may not have, or with a second `substitute`.
 pub(crate) fn check_names(names: &Element, reading: &mut Reading<'_>) -> Result<(), Stop> {

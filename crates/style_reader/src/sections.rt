@@ -7,18 +7,18 @@ use style_elements::attributes::{is_true, named, number, only, text, text_or_emp
 use style_elements::children::{csl_name, needed_child, only_child};
 use style_elements::reading::Reading;
 use style_elements::shape::{BIBLIOGRAPHY, CITATION, KEY, LAYOUT, SORT, check};
+use style_elements::stop::Stop;
 use style_elements::tables::{
     COLLAPSES, GIVEN_NAME_RULES, SECOND_FIELD_ALIGNS, SORT_DIRECTIONS, SUBSTITUTE_RULES,
 };
 use style_elements::words::variable;
-use style_faults::stop::Stop;
 use style_file::element::RenderingElement;
 use style_file::names::InheritedNameOptions;
 use style_file::sections::{
     Bibliography, BibliographyOptions, Citation, CitationOptions, GivenNameRule, Layout, SortBy,
     SortDirection, SortKey, SubstituteRule,
 };
-use xml_reader::tree::{Attribute, Element};
+use style_xml::tree::{Attribute, Element};
 
 /// The citation that an element `citation` is.
 pub(crate) fn citation_of(element: &Element, reading: &mut Reading<'_>) -> Result<Citation, Stop> {

@@ -7,19 +7,19 @@ use crate::sections::{bibliography_of, citation_of};
 use std::alloc::Global;
 use style_elements::attributes::{attribute, language_tag, named, needed, needed_value, truth};
 use style_elements::children::{csl_name, needed_child, only_child};
+use style_elements::fault::Wanted;
 use style_elements::reading::Reading;
 use style_elements::shape::{MACRO, STYLE, check};
+use style_elements::stop::Stop;
 use style_elements::tables::{CLASSES, PAGE_RANGE_FORMATS, PARTICLE_DEMOTIONS};
-use style_faults::fault::Wanted;
-use style_faults::stop::Stop;
-use style_faults::warning::Oddity;
+use style_elements::warning::Oddity;
 use style_file::locale::StyleLocale;
 use style_file::names::InheritedNameOptions;
 use style_file::sections::{Bibliography, Citation};
 use style_file::style::{
     CslStyle, DependentStyle, GlobalOptions, Macro, ParticleDemotion, StyleClass, StyleFile,
 };
-use xml_reader::tree::{Attribute, Element};
+use style_xml::tree::{Attribute, Element};
 
 /// What a style says. One that has nothing but its `info` stands for another.
 pub(crate) fn style_of(root: &Element, reading: &mut Reading<'_>) -> Result<StyleFile, Stop> {

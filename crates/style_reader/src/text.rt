@@ -1,20 +1,20 @@
 //! Texts, numbers and labels.
 use crate::formatting::{display_of, setting_of, text_case_of, wording_of};
 use crate::names::label_options;
-use csl_vocabulary::term::{TERM_FORMS, TermForm};
-use csl_vocabulary::variable::{NumberVariable, Variable};
 use std::alloc::Global;
 use style_elements::attributes::{is_true, named, needed, only};
+use style_elements::fault::VariableKinds;
 use style_elements::reading::Reading;
 use style_elements::shape::{LABEL, NUMBER, TEXT, check};
+use style_elements::stop::Stop;
 use style_elements::tables::{NUMBER_FORMS, VARIABLE_FORMS};
 use style_elements::words::{number_variable, other_kind, term_name, variable};
-use style_faults::fault::VariableKinds;
-use style_faults::stop::Stop;
 use style_file::element::{
     Label, Number, NumberForm, RenderingElement, Text, TextSource, VariableForm,
 };
-use xml_reader::tree::{Attribute, Element};
+use style_file::term::{TERM_FORMS, TermForm};
+use style_file::variable::{NumberVariable, Variable};
+use style_xml::tree::{Attribute, Element};
 
 /// The attributes that say what a text writes.
 const SOURCES: &[&str] = &["variable", "macro", "term", "value"];

@@ -7,25 +7,25 @@ use Rattle.std.proofs.lemmas.Bool.{or_right}
 use Rattle.std.proofs.lemmas.List.Elements.{All-head, All-tail}
 use Rattle.std.proofs.lemmas.List.Folds.{Any-from_list_any, list_any-from_Any}
 use Rattle.std.proofs.lemmas.Option.{slice_get-get_or, slice_get-map}
-use Rattle.csl_ambiguity.specs.Members.{Member, entry_of, members}
-use Rattle.csl_assembly.specs.declared.rendered.Rendered.{Rendered}
-use Rattle.csl_writers.specs.Writing.{Writing}
+use Rattle.rounds_ambiguity.specs.Members.{Member, entry_of, members}
+use Rattle.driver_assembly.specs.declared.rendered.Rendered.{Rendered}
+use Rattle.driver_writers.specs.Writing.{Writing}
 use Rattle.csl_driver.specs.Answer.{Job, rendered_first}
 use Rattle.csl_driver.specs.AnswerLaws.{KeepsLaws}
 use Rattle.csl_driver.specs.declared.account.Account.{Account}
-use Rattle.csl_entries.specs.Entries.{distinct, is_in}
-use Rattle.csl_entries.specs.Laws.{NoTwoEqual}
-use Rattle.csl_entries.proofs.Distinct.{is_in-distinct}
-use Rattle.csl_entries.proofs.Placed.{map-map}
-use Rattle.csl_lookup.specs.States.{year_suffix}
-use Rattle.csl_lookup.specs.declared.state.DisambiguateState.{DisambiguateState}
-use Rattle.csl_lookup.specs.declared.state.DisambiguateState.TheVariants.{YearSuffix}
-use Rattle.csl_passes.specs.Renders.{Place}
-use Rattle.csl_round_laws.specs.Rounds.{StateTable, no_states, told_by}
-use Rattle.csl_round_laws.specs.RunLaws.{GetsSuffixInGroup, GetsSuffixes, shown_at}
-use Rattle.csl_round_laws.specs.Tables.{last_table}
-use Rattle.csl_round_laws.specs.declared.mode.RoundMode.{RoundMode}
-use Rattle.csl_round_laws.proofs.Numbered.{any-map}
+use Rattle.driver_entries.specs.Entries.{distinct, is_in}
+use Rattle.driver_entries.specs.Laws.{NoTwoEqual}
+use Rattle.driver_entries.proofs.Distinct.{is_in-distinct}
+use Rattle.driver_entries.proofs.Placed.{map-map}
+use Rattle.driver_lookup.specs.States.{year_suffix}
+use Rattle.driver_lookup.specs.declared.state.DisambiguateState.{DisambiguateState}
+use Rattle.driver_lookup.specs.declared.state.DisambiguateState.TheVariants.{YearSuffix}
+use Rattle.driver_passes.specs.Renders.{Place}
+use Rattle.rounds_runs.specs.Rounds.{StateTable, no_states, told_by}
+use Rattle.rounds_runs.specs.RunLaws.{GetsSuffixInGroup, GetsSuffixes, shown_at}
+use Rattle.rounds_runs.specs.Tables.{last_table}
+use Rattle.rounds_runs.specs.declared.mode.RoundMode.{RoundMode}
+use Rattle.rounds_runs.proofs.Numbered.{any-map}
 use Rattle.test_callers.specs.Clients.{GotLetters, GotSuffix, firsts, table_of_round}
 
 some-inj : {X : Type 0} (x y : X) → Some x ≡ Some y → x ≡ y

@@ -1,16 +1,16 @@
 -- What a caller derives from the laws of an answer, without reading how it is made.
 use Rattle.std.specs.Prelude.{◌≡◌, ◌≢◌, ℕ, ◌+◌, ◌<◌, Bool, List, Option, Some, length, map, slice_get, slice_index, slice_index_or, slice_range}
-use Rattle.csl_assembly.specs.declared.rendered.Rendered.{Rendered}
-use Rattle.csl_writers.specs.Writing.{Writing}
-use Rattle.csl_style_values.specs.declared.style.Collapse.{Collapse}
-use Rattle.csl_collapse.specs.NumberLaws.{AreNextShown, CanBeReadBack, WasHid, numbers_of}
+use Rattle.driver_assembly.specs.declared.rendered.Rendered.{Rendered}
+use Rattle.driver_writers.specs.Writing.{Writing}
+use Rattle.value_styles.specs.declared.style.Collapse.{Collapse}
+use Rattle.rounds_grouping.specs.NumberLaws.{AreNextShown, CanBeReadBack, WasHid, numbers_of}
 use Rattle.csl_driver.specs.Answer.{Job, rendered_first}
 use Rattle.csl_driver.specs.AnswerLaws.{KeepsLaws}
 use Rattle.csl_driver.specs.declared.account.Account.{Account}
-use Rattle.csl_passes.specs.Renders.{CiteRender, ItemRender}
-use Rattle.csl_round_laws.specs.Rounds.{StateTable, no_states}
-use Rattle.csl_round_laws.specs.RunLaws.{GetsSuffixInGroup}
-use Rattle.csl_round_laws.specs.declared.mode.RoundMode.{RoundMode}
+use Rattle.driver_passes.specs.Renders.{CiteRender, ItemRender}
+use Rattle.rounds_runs.specs.Rounds.{StateTable, no_states}
+use Rattle.rounds_runs.specs.RunLaws.{GetsSuffixInGroup}
+use Rattle.rounds_runs.specs.declared.mode.RoundMode.{RoundMode}
 
 -- an entry and a number that stand at one place of an account
 pub record StandAtOnePlace {E : Type 0} (account : Account E) (e : E) (number : ℕ) : Type 0 where

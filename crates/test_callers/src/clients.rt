@@ -20,13 +20,13 @@ ghost use Rattle.std.specs.Prelude.{
   slice_get,
   string_bytes,
 };
-ghost use Rattle.csl_assembly.specs.declared.rendered.Rendered.{Rendered};
+ghost use Rattle.driver_assembly.specs.declared.rendered.Rendered.{Rendered};
 ghost use Rattle.csl_driver.specs.Answer.{Job};
 ghost use Rattle.csl_driver.specs.AnswerLaws.{HaveNumbersOnce, KeepsLaws};
-ghost use Rattle.csl_lookup.specs.Between.{between};
-ghost use Rattle.csl_lookup.specs.States.{year_suffix};
-ghost use Rattle.csl_lookup.specs.SuffixLetters.{suffix_letters};
-ghost use Rattle.csl_round_laws.specs.declared.mode.RoundMode.{RoundMode};
+ghost use Rattle.driver_lookup.specs.Between.{between};
+ghost use Rattle.driver_lookup.specs.States.{year_suffix};
+ghost use Rattle.driver_lookup.specs.SuffixLetters.{suffix_letters};
+ghost use Rattle.rounds_runs.specs.declared.mode.RoundMode.{RoundMode};
 ghost use Rattle.test_callers.specs.Clients.{AreHiddenBetween, GotLetters, StandAtOnePlace};
 ghost use Rattle.csl_writing.specs.LayoutWriting.{layout_writing};
 

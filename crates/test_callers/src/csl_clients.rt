@@ -1,12 +1,12 @@
 //! Callers that rely on the laws of an answer in which works are disambiguated as CSL 1.0.2 has it,
 //! and on nothing that says how it is made.
 ghost use Rattle.std.specs.Prelude.{◌≡◌, ◌||◌, IfOk, true};
-ghost use Rattle.csl_assembly.specs.declared.rendered.Rendered.{Rendered};
+ghost use Rattle.driver_assembly.specs.declared.rendered.Rendered.{Rendered};
 ghost use Rattle.csl_driver.specs.Answer.{Job};
 ghost use Rattle.csl_driver.specs.CslLaws.{KeepsCslLaws, mentions_had};
 ghost use Rattle.csl_driver.specs.JobView.{job_of};
-ghost use Rattle.csl_told_laws.specs.SuffixLaws.{ReadAlike, suffix_at};
-ghost use Rattle.csl_writers.specs.Writing.{Writing};
+ghost use Rattle.mentions_table_laws.specs.SuffixLaws.{ReadAlike, suffix_at};
+ghost use Rattle.driver_writers.specs.Writing.{Writing};
 ghost use Rattle.csl_writing.specs.LayoutWriting.{layout_writing};
 ghost use Rattle.test_callers.specs.CslClients.{HaveOtherLetters};
 

@@ -5,7 +5,6 @@ use csl_base::first_names::first_names_laws;
 use csl_base::last_text::last_text_laws;
 use csl_base::names::forms_are_in_order;
 use csl_base::simplify::simplify_laws;
-use csl_context::token::heights_equality_decides;
 use csl_driver::error::error_equality_decides;
 use csl_driver::laws::{
     ambiguous_stand_together, answer_equality_decides, answers_copy_equal, answers_keep_laws,
@@ -15,12 +14,13 @@ use csl_driver::laws::{
     suffixes_count_entries,
 };
 use csl_driver::mode::mode_equality_decides;
-use csl_limits::limits::limits_equality_decides;
 use csl_writing::laws::{
     copies_are_equal, defaults_are_none, equality_decides, states_go_on, states_have_a_greatest,
     suffixes_differ, usage_counts_once,
 };
 use csl_writing::picking::{macros_unfold, suffixes_unfold};
+use driver_styles::limits::limits_equality_decides;
+use layout_context::token::heights_equality_decides;
 use std::convert::Infallible;
 
 /// Calls the laws of an answer and of what is asked, each once.

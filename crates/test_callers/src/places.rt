@@ -1,11 +1,11 @@
 //! What a caller learns of a tree that lent a place: its last text, its first names.
 ghost use Rattle.std.specs.Prelude.{◌≡◌, None, Some};
-ghost use Rattle.csl_trees.specs.Tree.{last_text, find_elem, has_names};
-ghost use Rattle.csl_trees.specs.LastText.{put_last_text};
-ghost use Rattle.csl_trees.specs.FirstNames.{put_names};
-ghost use Rattle.csl_trees.specs.declared.elem.Elem.{Elem};
-ghost use Rattle.csl_values.specs.declared.formatting.Formatted.{Formatted};
-ghost use Rattle.csl_values.specs.declared.formatting.FontStyle.TheVariants as style;
+ghost use Rattle.value_trees.specs.Tree.{last_text, find_elem, has_names};
+ghost use Rattle.value_trees.specs.LastText.{put_last_text};
+ghost use Rattle.value_trees.specs.FirstNames.{put_names};
+ghost use Rattle.value_trees.specs.declared.elem.Elem.{Elem};
+ghost use Rattle.value_sources.specs.declared.formatting.Formatted.{Formatted};
+ghost use Rattle.value_sources.specs.declared.formatting.FontStyle.TheVariants as style;
 
 use csl_base::elem::{Elem, ElemChild, ElemChildren, ElemMeta};
 use csl_base::formatting::{FontStyle, Formatting};

@@ -6,7 +6,7 @@ use csl_driver::account::Account;
 use csl_driver::csl_account::CslAccount;
 use csl_driver::error::{DriverError, RingLocation};
 use csl_driver::state::DisambiguateState;
-use csl_mentions::state::MentionState;
+use mentions_groups::state::MentionState;
 
 fn form_word(form: DisambiguatedNameForm) -> &'static str {
     match form {

@@ -8,11 +8,11 @@ use crate::cites::print_cites;
 use crate::contexts::print_contexts;
 use crate::counting::by_counting;
 use crate::ways::How;
-use cite_document::document::Document;
-use cite_document::error::RunError;
 use csl_driver::terms::TermTables;
-use json_document::finders::found_styles;
-use json_document::requests::Targets;
+use document_answer::document::Document;
+use document_answer::error::RunError;
+use document_requests::finders::found_styles;
+use document_requests::requests::Targets;
 
 /// Does what is asked with the document of this text.
 pub fn answered(

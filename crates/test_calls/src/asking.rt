@@ -1,12 +1,12 @@
 //! What a document asks for, and what is seen of the calls that answer it.
 
-use cite_document::document::Document;
-use cite_document::error::RunError;
-use cite_document::filling::{bibliography_order, bibliography_request, filled_driver};
 use csl_base::entry::PlainEntry;
 use csl_driver::driver::BibliographyDriver;
 use csl_driver::request::BibliographyRequest;
-use json_document::requests::Targets;
+use document_answer::document::Document;
+use document_answer::error::RunError;
+use document_answer::filling::{bibliography_order, bibliography_request, filled_driver};
+use document_requests::requests::Targets;
 use std::alloc::Global;
 use std::convert::Infallible;
 

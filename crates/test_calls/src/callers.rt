@@ -1,10 +1,10 @@
 //! What callers learn of an answer by its laws alone, and what they do with values of their own.
 
 use crate::asking::{Asking, Seen};
-use cite_document::error::RunError;
 use csl_base::entry::PlainEntry;
 use csl_driver::account::Account;
-use json_document::rounds::Rounds;
+use document_answer::error::RunError;
+use document_requests::rounds::Rounds;
 use std::alloc::{AllocError, Global};
 use std::convert::Infallible;
 use test_callers::clients::{entry_of_number, hidden_between, letters_in_answer};

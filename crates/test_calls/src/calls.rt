@@ -7,14 +7,14 @@ use crate::equality::{print_copies, print_requests, print_wanted, word};
 use crate::passes::by_passes;
 use crate::printing::{print_answer, print_data};
 use crate::ways::How;
-use cite_document::error::RunError;
 use csl_base::entry::PlainEntry;
 use csl_driver::error::{CitationRefused, DriverError};
 use csl_driver::rendered::Rendered;
 use csl_driver::request::{BibliographyRequest, CitationRequest};
 use csl_driver::standalone::standalone_citation;
-use json_document::requests::{AskedRequest, Targets, driver_request};
-use json_document::rounds::Rounds;
+use document_answer::error::RunError;
+use document_requests::requests::{AskedRequest, Targets, driver_request};
+use document_requests::rounds::Rounds;
 use std::alloc::{AllocError, Global};
 use std::convert::Infallible;
 

@@ -1,13 +1,12 @@
 //! Calls that render a cite or a date without a driver, and copies of what they give and of what an
 //! entry has, of each entry of a document; and a cite of an entry whose title has pieces of other
 //! kinds. Its locator is a payload of the caller's own. Each is named before it is made.
-ghost use Rattle.csl_style_values.specs.Ring.{HasNoRing};
+ghost use Rattle.value_styles.specs.Ring.{HasNoRing};
 ghost use Rattle.csl_writing.specs.ContextSource.{context_source};
 
 use crate::equality::word;
 use crate::printing::print_tree;
 use crate::rings::ringless;
-use cite_document::error::RunError;
 use csl_base::elem::ElemChildren;
 use csl_base::entry::{Chunk, ChunkKind, ChunkedString, Person, PlainEntry};
 use csl_base::locale::Locale;
@@ -16,9 +15,10 @@ use csl_base::style::IndependentStyle;
 use csl_base::taxonomy::StandardVariable;
 use csl_base::text::Text;
 use csl_driver::year::write_year;
-use csl_lookup::properties::CiteProperties;
 use csl_writing::counter::Renders;
 use csl_writing::lookup::StyleContext;
+use document_answer::error::RunError;
+use driver_lookup::properties::CiteProperties;
 use std::alloc::{AllocError, Global};
 use test_callers::values::located;
 

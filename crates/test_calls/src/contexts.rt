@@ -1,7 +1,7 @@
 //! Calls of a writing context that no layout makes. The contract of each says what it writes; that
 //! it succeeds is seen here.
 ghost use Rattle.std.specs.Prelude.{◌≡◌, length};
-ghost use Rattle.csl_context.specs.WritingState.{state};
+ghost use Rattle.layout_context.specs.WritingState.{state};
 
 use csl_base::elem::ElemChildren;
 use csl_base::element::{Affixes, InheritableNameOptions};
@@ -9,10 +9,10 @@ use csl_base::entry::{Chunk, ChunkKind, ChunkedString};
 use csl_base::seq::Seq;
 use csl_base::style::IndependentStyle;
 use csl_base::text::Text;
-use csl_context::context::Context;
-use csl_context::writing::WritingContext;
-use csl_lookup::properties::CiteProperties;
 use csl_writing::lookup::StyleContext;
+use driver_lookup::properties::CiteProperties;
+use layout_context::context::Context;
+use layout_context::writing::WritingContext;
 use std::alloc::{AllocError, Global};
 use std::convert::Infallible;
 use std::fmt::Write;

@@ -7,10 +7,10 @@ use csl_driver::csl_account::CslAccount;
 use csl_driver::error::{DriverError, FinishError};
 use csl_driver::rendered::Rendered;
 use csl_driver::request::BibliographyRequest;
-use csl_round_laws::mode::RoundMode;
-use csl_writers::writer::CiteWriter;
+use document_requests::rounds::Rounds;
+use driver_writers::writer::CiteWriter;
 use host_driver::drive::Driven;
-use json_document::rounds::Rounds;
+use rounds_runs::mode::RoundMode;
 use std::convert::Infallible;
 
 /// How often a driver is called at most where works are disambiguated as CSL 1.0.2 has it.

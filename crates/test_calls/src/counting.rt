@@ -3,8 +3,6 @@
 
 use crate::asking::Seen;
 use crate::printing::print_answer;
-use cite_document::document::Document;
-use cite_document::error::RunError;
 use csl_base::entry::{ChunkedString, Date, EntryLike, Person, PlainEntry};
 use csl_base::style::IndependentStyle;
 use csl_base::taxonomy::{DateVariable, NameVariable, NumberVariable, StandardVariable};
@@ -13,12 +11,14 @@ use csl_driver::driver::BibliographyDriver;
 use csl_driver::item::CitationItem;
 use csl_driver::rendered::Rendered;
 use csl_driver::request::{BibliographyRequest, CitationRequest};
-use csl_round_laws::mode::RoundMode;
-use json_document::document::{Job, value_of};
-use json_document::entries::entries_of;
-use json_document::requests::{AskedCite, AskedRequest};
-use json_document::rounds::Rounds;
-use json_styles::styles::NamedStyle;
+use document_answer::document::Document;
+use document_answer::error::RunError;
+use document_requests::document::{Job, value_of};
+use document_requests::entries::entries_of;
+use document_requests::requests::{AskedCite, AskedRequest};
+use document_requests::rounds::Rounds;
+use document_styles::styles::NamedStyle;
+use rounds_runs::mode::RoundMode;
 use std::alloc::{AllocError, Global};
 use std::cell::Cell;
 use std::convert::Infallible;
@@ -39,8 +39,8 @@ impl Counting {
 }
 
 impl EntryLike for Counting {
-    ghost use Rattle.csl_values.specs.PlainEntry.{plain_answers};
-    ghost use Rattle.csl_values.specs.EqualEntries.{equal_entries_answer_equally};
+    ghost use Rattle.value_sources.specs.PlainEntry.{plain_answers};
+    ghost use Rattle.value_sources.specs.EqualEntries.{equal_entries_answer_equally};
 
     ghost answers = { λ c. plain_answers c.plain };
 

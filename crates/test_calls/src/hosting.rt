@@ -1,10 +1,10 @@
 //! Styles of a host, which have a name in place of their layouts.
 
-use cite_document::error::RunError;
 use csl_base::style::{Bibliography, IndependentStyle};
+use document_answer::error::RunError;
+use document_requests::document::value_of;
+use document_styles::styles::{NamedStyle, styles_of};
 use host_memo::host_style::named;
-use json_document::document::value_of;
-use json_styles::styles::{NamedStyle, styles_of};
 use std::alloc::{AllocError, Global};
 
 /// Puts the name in the place of the elements of the layouts.

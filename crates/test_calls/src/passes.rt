@@ -1,14 +1,13 @@
 //! The passes by themselves, on the cites of a document as they are written without a driver.
 ghost use Rattle.std.specs.Prelude.{All};
-ghost use Rattle.csl_style_values.specs.Ring.{HasNoRing};
-ghost use Rattle.csl_passes.specs.Places.{AreDistinct, IsPlace};
-ghost use Rattle.csl_passes.specs.RendersView.{renders_view};
+ghost use Rattle.value_styles.specs.Ring.{HasNoRing};
+ghost use Rattle.driver_passes.specs.Places.{AreDistinct, IsPlace};
+ghost use Rattle.driver_passes.specs.RendersView.{renders_view};
 ghost use Rattle.csl_writing.specs.ContextSource.{context_source};
 
 use crate::account::print_state;
 use crate::asking::Seen;
 use crate::rings::ringless;
-use cite_document::error::RunError;
 use csl_base::elem::ElemChildren;
 use csl_base::entry::{EntryLike, PlainEntry};
 use csl_base::style::{Bibliography, IndependentStyle};
@@ -23,6 +22,7 @@ use csl_driver::passes::{
 };
 use csl_driver::properties::CiteProperties;
 use csl_driver::request::CitationRequest;
+use document_answer::error::RunError;
 use std::alloc::{AllocError, Global};
 use std::convert::Infallible;
 

@@ -3,8 +3,8 @@
 use csl_base::elem::ElemChildren;
 use csl_base::seq::Seq;
 use csl_driver::rendered::{Rendered, RenderedBibliography, RenderedCitation};
-use json_answer::printing::print_json;
 use std::alloc::{AllocError, Global};
+use write_json::printing::print_json;
 
 /// Prints an answer as `cite_run` does.
 pub fn print_answer(rt: &impl Print, rendered: &Rendered) {

@@ -1,13 +1,13 @@
 //! Styles whose macros call each other in no ring.
 ghost use Rattle.std.specs.Prelude.{IfOk};
-ghost use Rattle.csl_style_values.specs.Ring.{HasNoRing};
+ghost use Rattle.value_styles.specs.Ring.{HasNoRing};
 ghost use Rattle.csl_writing.specs.ContextSource.{context_source};
 
-use cite_document::error::RunError;
 use csl_base::locale::Locale;
 use csl_base::style::IndependentStyle;
-use csl_lookup::lookup::StyleLocales;
 use csl_writing::lookup::StyleContext;
+use document_answer::error::RunError;
+use driver_lookup::lookup::StyleLocales;
 use std::alloc::Global;
 
 /// The style with these locale files.

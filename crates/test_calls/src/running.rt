@@ -2,11 +2,11 @@
 
 use crate::asking::Seen;
 use crate::streams::{Failing, Slow};
-use cite_document::error::RunError;
-use cite_document::faults::print_fault_bytes;
-use cite_document::input::read_input;
-use cite_document::running::run;
-use json_document::document::utf8_text;
+use document_answer::error::RunError;
+use document_answer::faults::print_fault_bytes;
+use document_answer::input::read_input;
+use document_answer::running::run;
+use document_requests::document::utf8_text;
 
 /// How many bytes the text of a document takes at most that is written into memory.
 const CAPACITY: usize = 65_536;

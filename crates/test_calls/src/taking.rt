@@ -2,12 +2,12 @@
 
 use crate::asking::{Asking, Seen};
 use crate::by_table::driven;
-use cite_document::error::RunError;
-use csl_lookup::state::IbidState;
+use document_answer::error::RunError;
+use document_requests::rounds::Rounds;
+use driver_lookup::state::IbidState;
 use host_driver::drive::Driven;
 use host_memo::key::{TaskKey, TaskPart};
 use host_memo::table::{Table, copied};
-use json_document::rounds::Rounds;
 use ordered_map::map::OrderedMap;
 use ordered_set::set::OrderedSet;
 use std::alloc::{AllocError, Global};

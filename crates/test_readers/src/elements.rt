@@ -2,7 +2,6 @@
 use crate::dates::dump_date;
 use crate::dump::Dump;
 use crate::names::{dump_et_al, dump_label_options, dump_name, dump_names_label};
-use csl_vocabulary::term::{TERM_FORMS, TermForm};
 use style_elements::tables::{MATCHES, NUMBER_FORMS, POSITIONS, VARIABLE_FORMS};
 use style_file::choose::{Branch, Choose, Match, Test};
 use style_file::element::{
@@ -10,6 +9,7 @@ use style_file::element::{
 };
 use style_file::names::Names;
 use style_file::style::Macro;
+use style_file::term::{TERM_FORMS, TermForm};
 
 /// The elements of a list, at this depth, in a style with these macros.
 #[cycle(dumps)]

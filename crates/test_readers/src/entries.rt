@@ -2,10 +2,10 @@
 //! references of CSL, lines for what was lost and for faults, and an empty line.
 use crate::dump::Dump;
 use crate::task::Task;
-use csl_json::reading::read_references;
 use reference_bibtex::reading::{BibForm, read_bibtex};
 use reference_items::json::json_of;
 use reference_items::reading::ReadItems;
+use reference_json::reading::read_references;
 use reference_ris::reading::read_ris;
 use std::alloc::{AllocError, Global};
 

@@ -1,9 +1,9 @@
 //! Locales.
 use crate::dates::dump_parts;
 use crate::dump::Dump;
-use csl_vocabulary::term::{GENDERS, ORDINAL_MATCHES, TERM_FORMS, TermForm};
 use style_elements::tables::DATE_FORMS;
 use style_file::locale::{Locale, LocaleFile, StyleLocale, Term, TermWords};
+use style_file::term::{GENDERS, ORDINAL_MATCHES, TERM_FORMS, TermForm};
 
 pub fn dump_locale_file(file: &LocaleFile, dump: &mut Dump) {
     dump.open(0, "locale");

@@ -1,6 +1,5 @@
 //! Names and labels.
 use crate::dump::Dump;
-use csl_vocabulary::term::{TERM_FORMS, TermForm};
 use style_elements::tables::{
     DELIMITER_PRECEDES, ET_AL_TERMS, LABEL_PLURALS, NAME_ANDS, NAME_FORMS, NAME_ORDERS,
 };
@@ -8,6 +7,7 @@ use style_file::names::{
     EtAl, EtAlTerm, InheritedNameOptions, LabelOptions, LabelPlural, LabelSide, Name, NameOptions,
     NamePart, NamesLabel,
 };
+use style_file::term::{TERM_FORMS, TermForm};
 
 /// The options of names, where their form and their delimiter have these names.
 fn dump_options(options: &NameOptions, form: &str, delimiter: &str, dump: &mut Dump) {

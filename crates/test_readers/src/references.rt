@@ -2,12 +2,12 @@
 //! an empty line.
 use crate::dump::Dump;
 use crate::task::Task;
-use csl_json::fault::ReferencesError;
-use csl_json::reading::{ReadReferences, read_references};
-use csl_references::date::{Date, DateSpan, PartialDate, Season, YearPart};
-use csl_references::name::{Name, PersonName};
-use csl_references::reference::Reference;
-use csl_references::rich_text::{Baseline, RichText, RunStyle};
+use reference_json::fault::ReferencesError;
+use reference_json::reading::{ReadReferences, read_references};
+use reference_values::date::{Date, DateSpan, PartialDate, Season, YearPart};
+use reference_values::name::{Name, PersonName};
+use reference_values::reference::Reference;
+use reference_values::rich_text::{Baseline, RichText, RunStyle};
 use serde_json::Value;
 use std::alloc::Global;
 

@@ -6,8 +6,8 @@ use crate::locales::dump_locale_file;
 use crate::style::{dump_dependent, dump_style};
 use crate::task::Task;
 use std::alloc::Global;
-use style_faults::error::StyleError;
-use style_faults::warning::Warning;
+use style_elements::error::StyleError;
+use style_elements::warning::Warning;
 use style_file::style::StyleFile;
 use style_reader::file::{CslFile, read_file};
 

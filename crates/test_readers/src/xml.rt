@@ -3,9 +3,9 @@
 use crate::dump::Dump;
 use crate::task::Task;
 use std::alloc::Global;
-use xml_reader::error::XmlError;
-use xml_reader::reader::read_bytes;
-use xml_reader::tree::{Content, Element};
+use style_xml::error::XmlError;
+use style_xml::reader::read_bytes;
+use style_xml::tree::{Content, Element};
 
 /// Appends the line of a document.
 pub fn say(rt: &(impl Eprint + AllocGlobal), task: Task, document: &[u8], dump: &mut Dump) {

@@ -1,9 +1,9 @@
 //! Small locales for tests, with the dates and some terms of CSL's locale files.
-use csl_vocabulary::term::{Gender, OrdinalMatch, TermForm, TermName};
 use std::alloc::{AllocError, Global};
 use style_file::date::{DateForm, DatePart, DatePartName, DayForm, MonthForm};
 use style_file::formatting::{Affixes, Formatting};
 use style_file::locale::{Locale, LocaleDate, LocaleFile, LocaleOptions, Term, TermWords};
+use style_file::term::{Gender, OrdinalMatch, TermForm, TermName};
 
 /// Terms, one a line: its name, its form, its gender, the gender of its nouns, its match, and its
 /// words for one and for many.

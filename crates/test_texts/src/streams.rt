@@ -6,7 +6,7 @@ use cite_pieces::output::{AffixPlace, Element, Output};
 use cite_pieces::pieces::Pieces;
 use cite_pieces::plain::plain_text;
 use cite_pieces::punctuation::punctuated;
-use csl_references::rich_text::RichText;
+use reference_values::rich_text::RichText;
 use std::alloc::{AllocError, Global};
 use style_file::formatting::{
     Display, FontStyle, FontVariant, FontWeight, Formatting, TextDecoration, VerticalAlign,

@@ -1,12 +1,12 @@
 //! Functions over plain text.
 use crate::said::Said;
-use csl_texts::addresses::{
+use cite_texts::addresses::{
     Identifier, identifier_address, last_address, resolver_at_end, url_address,
 };
-use csl_texts::cases::{Language, in_case};
-use csl_texts::initials::{Initials, in_initials};
-use csl_texts::numbers::{NumberPart, is_numeric, number_parts, roman};
-use csl_texts::pages::page_ranges;
+use cite_texts::cases::{Language, in_case};
+use cite_texts::initials::{Initials, in_initials};
+use cite_texts::numbers::{NumberPart, is_numeric, number_parts, roman};
+use cite_texts::pages::page_ranges;
 use std::alloc::{AllocError, Global};
 use style_file::formatting::TextCase;
 use style_file::style::PageRangeFormat;

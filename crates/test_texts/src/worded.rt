@@ -4,25 +4,25 @@ use crate::said::Said;
 use cite_dates::sorting::sorted_date;
 use cite_dates::write::{DateOptions, push_date};
 use cite_locale::chain::LocaleChain;
-use cite_numbers::forms::{number_text, pages};
-use cite_numbers::locators::locator_parts;
-use cite_numbers::plurals::is_plural;
+use cite_locale::forms::{number_text, pages};
+use cite_locale::locators::locator_parts;
+use cite_locale::plurals::is_plural;
 use cite_pieces::output::Output;
 use cite_pieces::pieces::Pieces;
 use cite_pieces::plain::plain_text;
-use csl_references::date::Date;
-use csl_vocabulary::item_type::ItemType;
-use csl_vocabulary::locator::LocatorType;
-use csl_vocabulary::term::{Gender, PlainTerm, TermForm, TermName};
-use csl_vocabulary::variable::{DateVariable, NameVariable, NumberVariable};
+use reference_values::date::Date;
 use std::alloc::{AllocError, Global};
 use style_file::date;
 use style_file::date::{
     DateForm, DateFormat, DatePart, DatePartName, DateParts, DayForm, MonthForm, YearForm,
 };
 use style_file::element::NumberForm;
+use style_file::item_type::ItemType;
 use style_file::locale::LocaleFile;
+use style_file::locator::LocatorType;
 use style_file::names::LabelPlural;
+use style_file::term::{Gender, PlainTerm, TermForm, TermName};
+use style_file::variable::{DateVariable, NameVariable, NumberVariable};
 
 /// TERM FORM one|many
 pub fn term(locales: &LocaleChain<'_>, args: &[&str], said: &mut Said) {

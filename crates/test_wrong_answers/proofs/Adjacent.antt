@@ -3,13 +3,13 @@ use Rattle.std.proofs.Common.{◌≡◌, ℕ, List, [], ◌∷◌, ◌++◌, Opt
 use Rattle.std.specs.Prelude.{Bool, codes, slice_get, slice_index}
 use Rattle.std.specs.Option.{option_map_or}
 use Rattle.std.proofs.lemmas.List.Sorted.{IsPermutation-swap, IsPermutation-trans}
-use Rattle.csl_trees.specs.Child.{Child, text}
-use Rattle.csl_trees.specs.SameElem.{same_elem}
-use Rattle.csl_trees.proofs.EqualTrees.{elem_Decides}
-use Rattle.csl_trees.specs.declared.elem.Elem.{Elem}
-use Rattle.csl_grouping.specs.FinalOrder.{HasFinalOrder}
-use Rattle.csl_grouping.specs.Laws.{StandsTogether, bare}
-use Rattle.csl_passes.specs.Renders.{ItemRender}
+use Rattle.value_trees.specs.Child.{Child, text}
+use Rattle.value_trees.specs.SameElem.{same_elem}
+use Rattle.value_trees.proofs.EqualTrees.{elem_Decides}
+use Rattle.value_trees.specs.declared.elem.Elem.{Elem}
+use Rattle.rounds_grouping.specs.FinalOrder.{HasFinalOrder}
+use Rattle.rounds_grouping.specs.Laws.{StandsTogether, bare}
+use Rattle.driver_passes.specs.Renders.{ItemRender}
 use Rattle.test_wrong_answers.proofs.Differ.{above, below}
 use Rattle.test_wrong_answers.specs.Orders.{as_cited, by_a, by_a_stale_index, by_b, in_blocks, names_of_a, names_of_b}
 use Rattle.test_wrong_answers.specs.Samples.{words}

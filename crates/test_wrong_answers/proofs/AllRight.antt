@@ -2,19 +2,19 @@
 use Rattle.std.proofs.Common.{◌≡◌, ℕ, ◌<◌, ◌^◌, [], ◌∷◌, length, map, refl, sym, ◌∙◌, arith}
 use Rattle.std.specs.Prelude.{nat_eq}
 use Rattle.std.specs.List.{range_with_len}
-use Rattle.csl_assembly.specs.declared.rendered.Rendered.{Rendered}
+use Rattle.driver_assembly.specs.declared.rendered.Rendered.{Rendered}
 use Rattle.csl_driver.specs.Account.{cost, final_state, marking}
 use Rattle.csl_driver.specs.Answer.{Job, final_number, rendered}
 use Rattle.csl_driver.specs.Promised.{IsExactly}
 use Rattle.csl_driver.specs.declared.account.Account.{Account}
-use Rattle.csl_entries.specs.Entries.{distinct}
-use Rattle.csl_lookup.specs.declared.state.DisambiguateState.{DisambiguateState}
-use Rattle.csl_name_marks.specs.NameMarks.{name_marks}
-use Rattle.csl_name_marks.specs.Steps.{step, steps}
-use Rattle.csl_passes.specs.Request.{cited}
-use Rattle.csl_round_laws.specs.RoundMarks.{round_marks}
-use Rattle.csl_round_laws.specs.Tables.{disambiguated, tables_from}
-use Rattle.csl_round_laws.specs.declared.mode.RoundMode.{RoundMode}
+use Rattle.driver_entries.specs.Entries.{distinct}
+use Rattle.driver_lookup.specs.declared.state.DisambiguateState.{DisambiguateState}
+use Rattle.rounds_names.specs.NameMarks.{name_marks}
+use Rattle.rounds_names.specs.Steps.{step, steps}
+use Rattle.driver_passes.specs.Request.{cited}
+use Rattle.rounds_runs.specs.RoundMarks.{round_marks}
+use Rattle.rounds_runs.specs.Tables.{disambiguated, tables_from}
+use Rattle.rounds_runs.specs.declared.mode.RoundMode.{RoundMode}
 use Rattle.test_wrong_answers.specs.Cites.{each_its_own, hidden_one, nothing_shown, one_by_one, two, with_a_purpose}
 use Rattle.std.specs.declared.num.NonZeroI16.{NonZeroI16}
 use Rattle.test_wrong_answers.specs.Letters.{IsPlainAccount, letters}

@@ -1,8 +1,8 @@
 -- What was hidden between two shown cites can't be read back.
 use Rattle.std.proofs.Common.{◌≡◌, ℕ, zero, suc, ◌<◌, Some, true, refl, ap, true≢false, arith}
 use Rattle.std.specs.Prelude.{length}
-use Rattle.csl_style_values.specs.declared.style.Collapse.{Collapse}
-use Rattle.csl_collapse.specs.NumberLaws.{AreNextShown, CanBeReadBack, is_hidden}
+use Rattle.value_styles.specs.declared.style.Collapse.{Collapse}
+use Rattle.rounds_grouping.specs.NumberLaws.{AreNextShown, CanBeReadBack, is_hidden}
 use Rattle.test_wrong_answers.proofs.Differ.{below}
 use Rattle.test_wrong_answers.specs.Runs.{over_the_gap, over_the_hidden_cite, with_a_gap, with_a_hidden_cite}
 

@@ -2,11 +2,11 @@
 use Rattle.std.proofs.Common.{◌≡◌, ℕ, zero, suc, ◌<◌, List, [], ◌∷◌, Some, None, map, refl, ap, sym, ◌∙◌, true≢false, arith}
 use Rattle.std.specs.Prelude.{AllPairs, codes, option_and_then, slice_get, slice_index}
 use Rattle.std.specs.Option.{option_map_or}
-use Rattle.csl_collapse.specs.NumberLaws.{WasHid, override_at}
-use Rattle.csl_collapse.specs.Stretches.{after_collapse}
-use Rattle.csl_grouping.specs.Laws.{bare}
-use Rattle.csl_trees.specs.Child.{Child, text}
-use Rattle.csl_trees.specs.declared.elem.Elem.{Elem}
+use Rattle.rounds_grouping.specs.NumberLaws.{WasHid, override_at}
+use Rattle.rounds_grouping.specs.Stretches.{after_collapse}
+use Rattle.rounds_grouping.specs.Laws.{bare}
+use Rattle.value_trees.specs.Child.{Child, text}
+use Rattle.value_trees.specs.declared.elem.Elem.{Elem}
 use Rattle.rounds_laws.specs.BlockLaws.{NextIsOfBlock, FormBlocks, block_places}
 use Rattle.rounds_laws.specs.CollapseLaws.{FollowsOwn, NumbersCollapse, YearsCollapse, cut_by, verdict_at}
 use Rattle.test_wrong_answers.proofs.Differ.{below}

@@ -2,15 +2,15 @@
 use Rattle.std.proofs.Common.{◌≡◌, ℕ, ◌+◌, Bool, List, [], ◌∷◌, length, map, ap, sym, ◌∙◌, arith}
 use Rattle.std.specs.Prelude.{nat_eq, slice_get, slice_index, unwrap_or}
 use Rattle.std.specs.Cmp.{unsigned_Decides}
-use Rattle.csl_assembly.specs.declared.rendered.Rendered.{Rendered}
+use Rattle.driver_assembly.specs.declared.rendered.Rendered.{Rendered}
 use Rattle.csl_driver.specs.Answer.{Job}
 use Rattle.csl_driver.specs.AnswerLaws.{KeepsLaws}
 use Rattle.csl_driver.specs.ListedOnce.{EqualHaveEqualKeys}
 use Rattle.csl_driver.specs.declared.account.Account.{Account}
-use Rattle.csl_entries.specs.Entries.{distinct}
-use Rattle.csl_passes.specs.Request.{cited}
-use Rattle.csl_round_laws.specs.declared.mode.RoundMode.{RoundMode}
-use Rattle.csl_writers.specs.Writing.{Writing}
+use Rattle.driver_entries.specs.Entries.{distinct}
+use Rattle.driver_passes.specs.Request.{cited}
+use Rattle.rounds_runs.specs.declared.mode.RoundMode.{RoundMode}
+use Rattle.driver_writers.specs.Writing.{Writing}
 use Rattle.std.specs.declared.num.NonZeroI16.{NonZeroI16}
 use Rattle.test_wrong_answers.proofs.Differ.{above, below}
 use Rattle.test_wrong_answers.specs.Letters.{letters}

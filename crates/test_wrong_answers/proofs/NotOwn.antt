@@ -5,15 +5,15 @@ use Rattle.std.specs.List.{sum_by}
 use Rattle.std.specs.List.Sorted.{IsPermutation}
 use Rattle.std.proofs.lemmas.List.Sorted.{sum_by-IsPermutation}
 use Rattle.std.proofs.lemmas.List.Sums.{sum_by-cons}
-use Rattle.csl_assembly.specs.CitationTree.{citation_tree, shown}
-use Rattle.csl_assembly.specs.declared.rendered.RenderedCitation.{RenderedCitation}
-use Rattle.csl_trees.specs.Tree.{plain}
+use Rattle.driver_assembly.specs.CitationTree.{citation_tree, shown}
+use Rattle.driver_assembly.specs.declared.rendered.RenderedCitation.{RenderedCitation}
+use Rattle.value_trees.specs.Tree.{plain}
 use Rattle.csl_driver.specs.AnswerLaws.{KeepsLaws, cite_of, places_of}
 use Rattle.csl_driver.specs.declared.account.Account.{Account}
-use Rattle.csl_passes.specs.Purposes.{has_no_purpose}
-use Rattle.csl_passes.specs.Renders.{CiteRender, ItemRender}
-use Rattle.csl_passes.specs.Request.{RequestedCite, with_places}
-use Rattle.csl_round_laws.specs.declared.mode.RoundMode.{RoundMode}
+use Rattle.driver_passes.specs.Purposes.{has_no_purpose}
+use Rattle.driver_passes.specs.Renders.{CiteRender, ItemRender}
+use Rattle.driver_passes.specs.Request.{RequestedCite, with_places}
+use Rattle.rounds_runs.specs.declared.mode.RoundMode.{RoundMode}
 use Rattle.test_wrong_answers.proofs.Differ.{above, below}
 use Rattle.test_wrong_answers.proofs.OfRequests.{AllAnswer, IsOnly, all-answer, only}
 use Rattle.test_wrong_answers.specs.Cites.{both_the_first, collapsed_all_the_same, hidden_one, of_three, shown_after_all, two, with_a_purpose}

@@ -5,15 +5,15 @@ use Rattle.std.specs.List.{AllZip, enumerate_from}
 use Rattle.std.specs.List.Sorted.{IsPermutation}
 use Rattle.std.proofs.lemmas.List.Elements.{All-head, All-tail}
 use Rattle.std.proofs.lemmas.List.Sorted.{Contains-permutation, length_permutation}
-use Rattle.csl_assembly.specs.CitationTree.{shown}
-use Rattle.csl_assembly.specs.declared.rendered.RenderedCitation.{RenderedCitation}
-use Rattle.csl_collapse.specs.NumberLaws.{is_hidden}
+use Rattle.driver_assembly.specs.CitationTree.{shown}
+use Rattle.driver_assembly.specs.declared.rendered.RenderedCitation.{RenderedCitation}
+use Rattle.rounds_grouping.specs.NumberLaws.{is_hidden}
 use Rattle.csl_driver.specs.Answer.{citation_of}
 use Rattle.csl_driver.specs.AnswerLaws.{HasOwnCites, IsReadBack, cite_of, places_of, uncollapsed}
 use Rattle.csl_driver.specs.ShownEntries.{entries_shown}
-use Rattle.csl_passes.specs.Renders.{CiteRender, ItemRender}
-use Rattle.csl_passes.specs.Request.{Request, RequestedCite, with_places}
-use Rattle.csl_writers.specs.Writing.{Writing}
+use Rattle.driver_passes.specs.Renders.{CiteRender, ItemRender}
+use Rattle.driver_passes.specs.Request.{Request, RequestedCite, with_places}
+use Rattle.driver_writers.specs.Writing.{Writing}
 
 module _ {E P : Type 0} (writing : Writing E P) where
   -- a citation, and the cites of the request that it came from

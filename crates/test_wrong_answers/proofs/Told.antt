@@ -2,18 +2,18 @@
 use Rattle.std.proofs.Common.{◌≡◌, ℕ, zero, suc, ◌≤◌, List, [], ◌∷◌, Option, Some, None, true, false, cond, refl, ap, true≢false, arith}
 use Rattle.std.specs.Prelude.{Bool, flat_map, slice_index_or, unwrap_or}
 use Rattle.std.proofs.lemmas.List.Elements.{All-cons, All-from_recursion, All-nil}
-use Rattle.csl_lookup.specs.States.{year_suffix}
-use Rattle.csl_lookup.specs.declared.state.DisambiguateState.{DisambiguateState}
-use Rattle.csl_lookup.specs.declared.state.DisambiguateState.TheVariants.{Choose, YearSuffix}
-use Rattle.csl_passes.specs.Renders.{CiteRender, ItemRender, Place}
-use Rattle.csl_round_laws.specs.FirstRenders.{AreBegun}
-use Rattle.csl_round_laws.specs.RoundMarks.{Mark, has_any, round_marks}
-use Rattle.csl_round_laws.specs.Rounds.{StateTable, no_states, with_marks}
-use Rattle.csl_round_laws.specs.RunLaws.{GetsSuffixes, IsInNoGroup, NothingLeft, StatesGoOn, SuffixesStay, shown_at}
-use Rattle.csl_round_laws.specs.Tables.{marked_at, marks_at, tables, tables_from}
-use Rattle.csl_round_laws.specs.declared.mode.RoundMode.{RoundMode}
-use Rattle.csl_name_marks.specs.NameMarks.{name_marks}
-use Rattle.csl_name_marks.specs.Steps.{step, steps}
+use Rattle.driver_lookup.specs.States.{year_suffix}
+use Rattle.driver_lookup.specs.declared.state.DisambiguateState.{DisambiguateState}
+use Rattle.driver_lookup.specs.declared.state.DisambiguateState.TheVariants.{Choose, YearSuffix}
+use Rattle.driver_passes.specs.Renders.{CiteRender, ItemRender, Place}
+use Rattle.rounds_runs.specs.FirstRenders.{AreBegun}
+use Rattle.rounds_runs.specs.RoundMarks.{Mark, has_any, round_marks}
+use Rattle.rounds_runs.specs.Rounds.{StateTable, no_states, with_marks}
+use Rattle.rounds_runs.specs.RunLaws.{GetsSuffixes, IsInNoGroup, NothingLeft, StatesGoOn, SuffixesStay, shown_at}
+use Rattle.rounds_runs.specs.Tables.{marked_at, marks_at, tables, tables_from}
+use Rattle.rounds_runs.specs.declared.mode.RoundMode.{RoundMode}
+use Rattle.rounds_names.specs.NameMarks.{name_marks}
+use Rattle.rounds_names.specs.Steps.{step, steps}
 use Rattle.test_wrong_answers.proofs.Differ.{above}
 use Rattle.test_wrong_answers.specs.Rounds.{alike, by_cite, in_two_groups, on_every_entry, overwritten_at_once, overwritten_later, unlike}
 use Rattle.test_wrong_answers.specs.Samples.{entry}

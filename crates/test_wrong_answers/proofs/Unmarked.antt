@@ -2,17 +2,17 @@
 use Rattle.std.proofs.Common.{◌≡◌, ◌⊎◌, inl, inr, zero, suc, ◌-◌, List, [], ◌∷◌, None, Some, true, length, refl, ap, sym, subst, ◌∙◌, true≢false, arith}
 use Rattle.std.specs.Prelude.{Any, Contains, filter, flat_map, slice_index_or}
 use Rattle.std.proofs.lemmas.List.Elements.{All-from_recursion}
-use Rattle.csl_ambiguity.specs.Ambiguity.{ambiguous_groups}
-use Rattle.csl_lookup.specs.declared.state.DisambiguateState.TheVariants.{Choose, YearSuffix}
-use Rattle.csl_name_marks.specs.NameMarks.{name_marks}
-use Rattle.csl_name_marks.specs.Steps.{step, steps}
-use Rattle.csl_passes.specs.Renders.{Place}
-use Rattle.csl_round_laws.specs.FirstRenders.{AreBegun}
-use Rattle.csl_round_laws.specs.RoundMarks.{cites_entry, has_any, round_marks}
-use Rattle.csl_round_laws.specs.Rounds.{no_states}
-use Rattle.csl_round_laws.specs.RunLaws.{GetsSuffixInGroup, HasSuffixesInOrder, IsLawful, NothingLeft, RanksRise, RoundsMark, StatesGoOn, SuffixesStay, marks_of_entry, shown_at}
-use Rattle.csl_round_laws.specs.Tables.{marks_at, rounds, tables, tables_from}
-use Rattle.csl_round_laws.specs.declared.mode.RoundMode.{RoundMode}
+use Rattle.rounds_ambiguity.specs.Ambiguity.{ambiguous_groups}
+use Rattle.driver_lookup.specs.declared.state.DisambiguateState.TheVariants.{Choose, YearSuffix}
+use Rattle.rounds_names.specs.NameMarks.{name_marks}
+use Rattle.rounds_names.specs.Steps.{step, steps}
+use Rattle.driver_passes.specs.Renders.{Place}
+use Rattle.rounds_runs.specs.FirstRenders.{AreBegun}
+use Rattle.rounds_runs.specs.RoundMarks.{cites_entry, has_any, round_marks}
+use Rattle.rounds_runs.specs.Rounds.{no_states}
+use Rattle.rounds_runs.specs.RunLaws.{GetsSuffixInGroup, HasSuffixesInOrder, IsLawful, NothingLeft, RanksRise, RoundsMark, StatesGoOn, SuffixesStay, marks_of_entry, shown_at}
+use Rattle.rounds_runs.specs.Tables.{marks_at, rounds, tables, tables_from}
+use Rattle.rounds_runs.specs.declared.mode.RoundMode.{RoundMode}
 use Rattle.test_wrong_answers.proofs.Differ.{above}
 use Rattle.test_wrong_answers.proofs.Told.{IsUntold, second, suffix_of}
 use Rattle.test_wrong_answers.specs.Marks.{both_chosen, both_seven, never_marked, seven, twice_empty, undated}

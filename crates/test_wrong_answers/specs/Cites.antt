@@ -1,10 +1,10 @@
 -- Requests whose cites are answered by others.
 use Rattle.std.specs.Prelude.{ℕ, [], ◌∷◌, Some, true, codes}
-use Rattle.csl_assembly.specs.declared.rendered.Rendered.{Rendered}
-use Rattle.csl_collapse.specs.NumberRuns.{en_dash}
+use Rattle.driver_assembly.specs.declared.rendered.Rendered.{Rendered}
+use Rattle.rounds_grouping.specs.NumberRuns.{en_dash}
 use Rattle.csl_driver.specs.Answer.{Job}
-use Rattle.csl_lookup.specs.declared.purpose.CitePurpose.{CitePurpose}
-use Rattle.csl_passes.specs.Request.{Request}
+use Rattle.driver_lookup.specs.declared.purpose.CitePurpose.{CitePurpose}
+use Rattle.driver_passes.specs.Request.{Request}
 use Rattle.test_wrong_answers.specs.Letters.{answer, job, asked_cite, citation, request, shows}
 use Rattle.test_wrong_answers.specs.Samples.{words}
 use Rattle.test_wrong_answers.specs.declared.sample.Sample.{Sample}

@@ -2,7 +2,7 @@
 -- costs.
 use Rattle.std.specs.Prelude.{ℕ, false, [], ◌∷◌, None}
 use Rattle.csl_driver.specs.Answer.{Job}
-use Rattle.csl_passes.specs.Request.{Request}
+use Rattle.driver_passes.specs.Request.{Request}
 use Rattle.test_wrong_answers.specs.Samples.{entry, style}
 use Rattle.test_wrong_answers.specs.declared.sample.Sample.{Sample}
 

@@ -1,11 +1,11 @@
 -- Cites as no pass leaves them, though the laws of the driver alone would allow it.
 use Rattle.std.specs.Prelude.{ℕ, List, [], ◌∷◌, Option, Some, codes}
-use Rattle.csl_collapse.specs.Stretches.{after_collapse}
-use Rattle.csl_collapse.specs.YearStretches.{cut_to_date}
-use Rattle.csl_lookup.specs.declared.state.CollapseVerdict.{CollapseVerdict}
-use Rattle.csl_passes.specs.Renders.{CiteRender, ItemRender}
-use Rattle.csl_style_values.specs.Style.{CitationValue}
-use Rattle.csl_style_values.specs.declared.style.Collapse.{Collapse}
+use Rattle.rounds_grouping.specs.Stretches.{after_collapse}
+use Rattle.rounds_grouping.specs.YearStretches.{cut_to_date}
+use Rattle.driver_lookup.specs.declared.state.CollapseVerdict.{CollapseVerdict}
+use Rattle.driver_passes.specs.Renders.{CiteRender, ItemRender}
+use Rattle.value_styles.specs.Style.{CitationValue}
+use Rattle.value_styles.specs.declared.style.Collapse.{Collapse}
 use Rattle.test_wrong_answers.specs.Orders.{by_a, by_b}
 use Rattle.test_wrong_answers.specs.Runs.{dashed, hidden, numbered}
 use Rattle.test_wrong_answers.specs.Samples.{request_of, style}

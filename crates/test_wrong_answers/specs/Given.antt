@@ -1,31 +1,31 @@
 -- Cites that are given something else, a range of numbers that aren't shown, and names that a style
 -- doesn't add.
 use Rattle.std.specs.Prelude.{ℕ, true, false, List, [], ◌∷◌, None, Option, Some, codes, if◌then◌else◌}
-use Rattle.csl_arranging.specs.Requests.{Request as Arranged}
-use Rattle.csl_arranging.specs.declared.arranged.ArrangedCite.{ArrangedCite}
-use Rattle.csl_arranging.specs.declared.positioned.PositionedCite.{PositionedCite}
-use Rattle.csl_arranging.specs.declared.request.CiteStyle.{CiteStyle}
-use Rattle.csl_arranging.specs.declared.request.FinalCite.{FinalCite}
-use Rattle.csl_arranging.specs.declared.request.RequestFacts.{RequestFacts}
-use Rattle.csl_arranging.specs.declared.request.RequestedCite.{RequestedCite}
-use Rattle.csl_blocks.specs.declared.blocks.PlacedCite.{PlacedCite}
-use Rattle.csl_blocks.specs.declared.collapsed.YearCut.{YearCut}
-use Rattle.csl_blocks.specs.declared.collapsed.YearDelimiter.{YearDelimiter}
-use Rattle.csl_lookup.specs.Properties.{LocatorValue}
-use Rattle.csl_lookup.specs.declared.state.DisambiguateState.{DisambiguateState}
-use Rattle.csl_lookup.specs.declared.state.IbidState.{IbidState}
-use Rattle.csl_mentions.specs.declared.state.MentionState.{MentionState}
-use Rattle.csl_mentions.specs.declared.written.Written.{Written}
-use Rattle.csl_notes.specs.declared.notes.CiteNotes.{CiteNotes}
-use Rattle.csl_notes.specs.declared.repeats.Position.{Position}
-use Rattle.csl_passes.specs.Renders.{ItemRender}
-use Rattle.csl_style_values.specs.declared.style.Collapse.{Collapse}
-use Rattle.csl_tables.specs.Asked.{is_told}
-use Rattle.csl_tables.specs.declared.subject.Subject.{Subject}
-use Rattle.csl_telling.specs.declared.mention.MentionedName.{MentionedName}
-use Rattle.csl_told_cites.specs.Arranging.{en_dash}
-use Rattle.csl_told_cites.specs.Mentions.{unshown}
-use Rattle.csl_values.specs.declared.names.DisambiguatedNameForm.{DisambiguatedNameForm}
+use Rattle.mentions_arranging.specs.Requests.{Request as Arranged}
+use Rattle.mentions_arranging.specs.declared.arranged.ArrangedCite.{ArrangedCite}
+use Rattle.mentions_arranging.specs.declared.positioned.PositionedCite.{PositionedCite}
+use Rattle.mentions_arranging.specs.declared.request.CiteStyle.{CiteStyle}
+use Rattle.mentions_arranging.specs.declared.request.FinalCite.{FinalCite}
+use Rattle.mentions_arranging.specs.declared.request.RequestFacts.{RequestFacts}
+use Rattle.mentions_arranging.specs.declared.request.RequestedCite.{RequestedCite}
+use Rattle.mentions_blocks.specs.declared.blocks.PlacedCite.{PlacedCite}
+use Rattle.mentions_blocks.specs.declared.collapsed.YearCut.{YearCut}
+use Rattle.mentions_blocks.specs.declared.collapsed.YearDelimiter.{YearDelimiter}
+use Rattle.driver_lookup.specs.Properties.{LocatorValue}
+use Rattle.driver_lookup.specs.declared.state.DisambiguateState.{DisambiguateState}
+use Rattle.driver_lookup.specs.declared.state.IbidState.{IbidState}
+use Rattle.mentions_groups.specs.declared.state.MentionState.{MentionState}
+use Rattle.mentions_groups.specs.declared.written.Written.{Written}
+use Rattle.mentions_notes.specs.declared.notes.CiteNotes.{CiteNotes}
+use Rattle.mentions_notes.specs.declared.repeats.Position.{Position}
+use Rattle.driver_passes.specs.Renders.{ItemRender}
+use Rattle.value_styles.specs.declared.style.Collapse.{Collapse}
+use Rattle.mentions_tables.specs.Asked.{is_told}
+use Rattle.mentions_tables.specs.declared.subject.Subject.{Subject}
+use Rattle.mentions_names.specs.declared.mention.MentionedName.{MentionedName}
+use Rattle.mentions_cites.specs.Arranging.{en_dash}
+use Rattle.mentions_cites.specs.Mentions.{unshown}
+use Rattle.value_sources.specs.declared.names.DisambiguatedNameForm.{DisambiguatedNameForm}
 use Rattle.mentions_laws.specs.Cites.{Row}
 use Rattle.test_wrong_answers.specs.Samples.{person, sample_cite}
 use Rattle.test_wrong_answers.specs.declared.sample.Sample.{Sample}

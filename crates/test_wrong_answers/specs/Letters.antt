@@ -1,16 +1,16 @@
 -- Answers in which each entry is a letter, and what they are asked.
 use Rattle.std.specs.Prelude.{◌≡◌, ℕ, ◌+◌, false, List, [], ◌∷◌, None, Some, length, map}
 use Rattle.std.specs.List.{range_with_len}
-use Rattle.csl_assembly.specs.declared.rendered.Rendered.{Rendered}
-use Rattle.csl_assembly.specs.declared.rendered.RenderedCitation.{RenderedCitation}
-use Rattle.csl_trees.specs.Child.{Child, elem, kid, no_kids}
-use Rattle.csl_trees.specs.declared.elem.ElemMeta.{ElemMeta}
+use Rattle.driver_assembly.specs.declared.rendered.Rendered.{Rendered}
+use Rattle.driver_assembly.specs.declared.rendered.RenderedCitation.{RenderedCitation}
+use Rattle.value_trees.specs.Child.{Child, elem, kid, no_kids}
+use Rattle.value_trees.specs.declared.elem.ElemMeta.{ElemMeta}
 use Rattle.csl_driver.specs.Answer.{Job}
 use Rattle.csl_driver.specs.declared.account.Account.{Account}
-use Rattle.csl_lookup.specs.declared.state.DisambiguateState.{DisambiguateState}
-use Rattle.csl_lookup.specs.declared.state.IdentifierUsage.{IdentifierUsage}
-use Rattle.csl_passes.specs.Request.{Request, RequestedCite}
-use Rattle.csl_writers.specs.Writing.{Writing}
+use Rattle.driver_lookup.specs.declared.state.DisambiguateState.{DisambiguateState}
+use Rattle.driver_lookup.specs.declared.state.IdentifierUsage.{IdentifierUsage}
+use Rattle.driver_passes.specs.Request.{Request, RequestedCite}
+use Rattle.driver_writers.specs.Writing.{Writing}
 use Rattle.test_wrong_answers.specs.Samples.{entry, numbered_element, style, words}
 use Rattle.test_wrong_answers.specs.Silent.{silent}
 use Rattle.test_wrong_answers.specs.declared.sample.Sample.{Sample}

@@ -1,10 +1,10 @@
 -- A bibliography of two cited entries.
 use Rattle.std.specs.Prelude.{ℕ, pos, false, List, [], ◌∷◌, None, Some, map}
-use Rattle.csl_assembly.specs.declared.rendered.BibliographyItem.{BibliographyItem}
-use Rattle.csl_assembly.specs.declared.rendered.Rendered.{Rendered}
-use Rattle.csl_style_values.specs.PlainLook.{no_options}
-use Rattle.csl_style_values.specs.Style.{BibliographyValue}
-use Rattle.csl_style_values.specs.declared.style.SubsequentAuthorSubstituteRule.{SubsequentAuthorSubstituteRule}
+use Rattle.driver_assembly.specs.declared.rendered.BibliographyItem.{BibliographyItem}
+use Rattle.driver_assembly.specs.declared.rendered.Rendered.{Rendered}
+use Rattle.value_styles.specs.PlainLook.{no_options}
+use Rattle.value_styles.specs.Style.{BibliographyValue}
+use Rattle.value_styles.specs.declared.style.SubsequentAuthorSubstituteRule.{SubsequentAuthorSubstituteRule}
 use Rattle.csl_driver.specs.Answer.{Job}
 use Rattle.std.specs.declared.num.NonZeroI16.{NonZeroI16}
 use Rattle.test_wrong_answers.specs.Cites.{each_its_own, two}

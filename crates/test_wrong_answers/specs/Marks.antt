@@ -1,8 +1,8 @@
 -- States that entries got from no mark, and a round in which nothing marked.
 use Rattle.std.specs.Prelude.{ℕ, List, [], ◌∷◌, codes}
-use Rattle.csl_lookup.specs.declared.state.DisambiguateState.TheVariants.{Choose, NameDisambiguation, YearSuffix}
-use Rattle.csl_passes.specs.Renders.{CiteRender}
-use Rattle.csl_round_laws.specs.Rounds.{StateTable, no_states}
+use Rattle.driver_lookup.specs.declared.state.DisambiguateState.TheVariants.{Choose, NameDisambiguation, YearSuffix}
+use Rattle.driver_passes.specs.Renders.{CiteRender}
+use Rattle.rounds_runs.specs.Rounds.{StateTable, no_states}
 use Rattle.test_wrong_answers.specs.Rounds.{both_shown, one_by_one, table}
 use Rattle.test_wrong_answers.specs.Samples.{sample_cite, words}
 use Rattle.test_wrong_answers.specs.declared.sample.Sample.{Sample}

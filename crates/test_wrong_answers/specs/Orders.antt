@@ -1,9 +1,9 @@
 -- The cites of a request by A, B, A, A and B, and what grouping makes of them.
 use Rattle.std.specs.Prelude.{ℕ, List, [], ◌∷◌, None, Some, codes}
-use Rattle.csl_trees.specs.declared.elem.Elem.{Elem}
-use Rattle.csl_trees.specs.declared.elem.ElemMeta.{ElemMeta}
-use Rattle.csl_values.specs.declared.taxonomy.NameVariable.{NameVariable}
-use Rattle.csl_passes.specs.Renders.{ItemRender}
+use Rattle.value_trees.specs.declared.elem.Elem.{Elem}
+use Rattle.value_trees.specs.declared.elem.ElemMeta.{ElemMeta}
+use Rattle.value_sources.specs.declared.taxonomy.NameVariable.{NameVariable}
+use Rattle.driver_passes.specs.Renders.{ItemRender}
 use Rattle.test_wrong_answers.specs.Samples.{by_authors, sample_cite, person, words}
 use Rattle.test_wrong_answers.specs.declared.sample.Sample.{Sample}
 

@@ -1,11 +1,11 @@
 -- Cites as they were rendered first, and the tables of states that rounds give their entries.
 use Rattle.std.specs.Prelude.{ℕ, true, List, [], ◌∷◌, Some, codes, find, nat_eq, option_map}
-use Rattle.csl_values.specs.declared.names.DisambiguatedNameForm.{DisambiguatedNameForm}
-use Rattle.csl_values.specs.declared.names.NameDisambiguationProperties.{NameDisambiguationProperties}
-use Rattle.csl_lookup.specs.declared.state.DisambiguateState.{DisambiguateState}
-use Rattle.csl_lookup.specs.declared.state.DisambiguateState.TheVariants.{Choose, NameDisambiguation, YearSuffix}
-use Rattle.csl_passes.specs.Renders.{CiteRender, ItemRender}
-use Rattle.csl_round_laws.specs.Rounds.{StateTable, no_states}
+use Rattle.value_sources.specs.declared.names.DisambiguatedNameForm.{DisambiguatedNameForm}
+use Rattle.value_sources.specs.declared.names.NameDisambiguationProperties.{NameDisambiguationProperties}
+use Rattle.driver_lookup.specs.declared.state.DisambiguateState.{DisambiguateState}
+use Rattle.driver_lookup.specs.declared.state.DisambiguateState.TheVariants.{Choose, NameDisambiguation, YearSuffix}
+use Rattle.driver_passes.specs.Renders.{CiteRender, ItemRender}
+use Rattle.rounds_runs.specs.Rounds.{StateTable, no_states}
 use Rattle.test_wrong_answers.specs.Samples.{by_authors, sample_cite, in_year, person, request_of, words}
 use Rattle.test_wrong_answers.specs.declared.sample.Sample.{Sample}
 

@@ -1,7 +1,7 @@
 -- Cites with citation numbers, and what collapsing makes of them.
 use Rattle.std.specs.Prelude.{ℕ, true, List, [], ◌∷◌, Some, codes}
-use Rattle.csl_collapse.specs.NumberRuns.{en_dash}
-use Rattle.csl_passes.specs.Renders.{ItemRender}
+use Rattle.rounds_grouping.specs.NumberRuns.{en_dash}
+use Rattle.driver_passes.specs.Renders.{ItemRender}
 use Rattle.test_wrong_answers.specs.Samples.{sample_cite, numbered_element}
 use Rattle.test_wrong_answers.specs.declared.sample.Sample.{Sample}
 

@@ -1,21 +1,21 @@
 -- Small requests and cites, on which answers are tried.
 use Rattle.std.specs.Prelude.{ℕ, true, false, List, [], ◌∷◌, None, Some, codes}
-use Rattle.csl_trees.specs.Child.{Child, elem, kid, no_kids, text}
-use Rattle.csl_style_values.specs.Element.{no_elements}
-use Rattle.csl_values.specs.Formatting.{normal, nothing_asked}
-use Rattle.csl_style_values.specs.PlainLook.{no_options}
-use Rattle.csl_style_values.specs.Style.{StyleValue}
-use Rattle.csl_trees.specs.declared.elem.ElemMeta.{ElemMeta}
-use Rattle.csl_values.specs.declared.entry.Person.{Person}
-use Rattle.csl_style_values.specs.declared.style.Collapse.{Collapse}
-use Rattle.csl_style_values.specs.declared.style.DisambiguationRule.{DisambiguationRule}
-use Rattle.csl_style_values.specs.declared.style.StyleClass.{StyleClass}
-use Rattle.csl_values.specs.declared.taxonomy.NameVariable.{NameVariable}
-use Rattle.csl_lookup.specs.declared.state.DisambiguateState.{DisambiguateState}
-use Rattle.csl_lookup.specs.Means.{no_means}
-use Rattle.csl_lookup.specs.declared.state.IbidState.{IbidState}
-use Rattle.csl_lookup.specs.declared.state.IdentifierUsage.{IdentifierUsage}
-use Rattle.csl_passes.specs.Renders.{CiteRender, ItemRender}
+use Rattle.value_trees.specs.Child.{Child, elem, kid, no_kids, text}
+use Rattle.value_styles.specs.Element.{no_elements}
+use Rattle.value_sources.specs.Formatting.{normal, nothing_asked}
+use Rattle.value_styles.specs.PlainLook.{no_options}
+use Rattle.value_styles.specs.Style.{StyleValue}
+use Rattle.value_trees.specs.declared.elem.ElemMeta.{ElemMeta}
+use Rattle.value_sources.specs.declared.entry.Person.{Person}
+use Rattle.value_styles.specs.declared.style.Collapse.{Collapse}
+use Rattle.value_styles.specs.declared.style.DisambiguationRule.{DisambiguationRule}
+use Rattle.value_styles.specs.declared.style.StyleClass.{StyleClass}
+use Rattle.value_sources.specs.declared.taxonomy.NameVariable.{NameVariable}
+use Rattle.driver_lookup.specs.declared.state.DisambiguateState.{DisambiguateState}
+use Rattle.driver_lookup.specs.Means.{no_means}
+use Rattle.driver_lookup.specs.declared.state.IbidState.{IbidState}
+use Rattle.driver_lookup.specs.declared.state.IdentifierUsage.{IdentifierUsage}
+use Rattle.driver_passes.specs.Renders.{CiteRender, ItemRender}
 use Rattle.test_wrong_answers.specs.declared.sample.Sample.{Sample}
 
 -- the entry of this number

@@ -1,7 +1,7 @@
 -- What samples answer, and when they are equal.
 use Rattle.std.specs.Prelude.{◌≡◌, Bool, true, [], None, refl}
-use Rattle.csl_values.specs.Answers.{Answers}
-use Rattle.csl_writers.specs.Writing.{Writing}
+use Rattle.value_sources.specs.Answers.{Answers}
+use Rattle.driver_writers.specs.Writing.{Writing}
 use Rattle.csl_writing.specs.LayoutWriting.{layout_writing}
 use Rattle.test_wrong_answers.specs.contracts.sample.SamplePartialEq.TheImpl as sample_eq
 use Rattle.test_wrong_answers.specs.declared.sample.Sample.{Sample}

@@ -2,9 +2,9 @@
 ghost use Rattle.std.specs.Prelude.{nat_eq};
 ghost use Rattle.csl_driver.specs.AnswerLaws.{KeepsLaws};
 ghost use Rattle.csl_driver.specs.declared.account.Account.{Account};
-ghost use Rattle.csl_entries.specs.Entries.{distinct};
-ghost use Rattle.csl_passes.specs.Request.{cited};
-ghost use Rattle.csl_round_laws.specs.declared.mode.RoundMode.{RoundMode};
+ghost use Rattle.driver_entries.specs.Entries.{distinct};
+ghost use Rattle.driver_passes.specs.Request.{cited};
+ghost use Rattle.rounds_runs.specs.declared.mode.RoundMode.{RoundMode};
 ghost use Rattle.test_wrong_answers.specs.Cites.{
   both_the_first,
   collapsed_all_the_same,

@@ -1,10 +1,10 @@
 //! Answers that the laws of the driver alone would allow. The further laws refuse them.
 ghost use Rattle.std.specs.Prelude.{◌≡◌, List, [], ◌∷◌, nat_eq};
-ghost use Rattle.csl_collapse.specs.Stretches.{after_collapse};
+ghost use Rattle.rounds_grouping.specs.Stretches.{after_collapse};
 ghost use Rattle.csl_driver.specs.declared.account.Account.{Account};
-ghost use Rattle.csl_grouping.specs.Blocks.{grouped};
-ghost use Rattle.csl_round_laws.specs.Rounds.{StateTable, no_states};
-ghost use Rattle.csl_round_laws.specs.declared.mode.RoundMode.{RoundMode};
+ghost use Rattle.rounds_grouping.specs.Blocks.{grouped};
+ghost use Rattle.rounds_runs.specs.Rounds.{StateTable, no_states};
+ghost use Rattle.rounds_runs.specs.declared.mode.RoundMode.{RoundMode};
 ghost use Rattle.rounds_laws.specs.BlockLaws.{FormBlocks};
 ghost use Rattle.rounds_laws.specs.CollapseLaws.{NumbersCollapse, YearsCollapse, cut_by};
 ghost use Rattle.rounds_laws.specs.FurtherLaws.{CountsRenders};

@@ -1,9 +1,9 @@
 //! What cites are given, hidden or named by, where works are disambiguated as CSL 1.0.2 has it, in
 //! place of what is said.
 ghost use Rattle.std.specs.Prelude.{List, ℕ, [], ◌∷◌, Some};
-ghost use Rattle.csl_arranging.specs.Arranged.{arranged_request};
-ghost use Rattle.csl_style_values.specs.declared.style.Collapse.{Collapse};
-ghost use Rattle.csl_tables.specs.Tables.{third_table};
+ghost use Rattle.mentions_arranging.specs.Arranged.{arranged_request};
+ghost use Rattle.value_styles.specs.declared.style.Collapse.{Collapse};
+ghost use Rattle.mentions_tables.specs.Tables.{third_table};
 ghost use Rattle.mentions_laws.specs.Adding.{NamesAreAsStylesSay};
 ghost use Rattle.mentions_laws.specs.Arranged.{AreArranged};
 ghost use Rattle.mentions_laws.specs.Cites.{IsGivenExactly};

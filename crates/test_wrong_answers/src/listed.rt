@@ -1,14 +1,14 @@
 //! Accounts and bibliographies that lack entries, or have others.
 ghost use Rattle.std.specs.Prelude.{◌≡◌, ◌≢◌, ℕ, List, [], ◌∷◌, nat_eq};
 ghost use Rattle.std.specs.declared.num.NonZeroI16.{NonZeroI16};
-ghost use Rattle.csl_assembly.specs.declared.rendered.Rendered.{Rendered};
+ghost use Rattle.driver_assembly.specs.declared.rendered.Rendered.{Rendered};
 ghost use Rattle.csl_driver.specs.Answer.{Job};
 ghost use Rattle.csl_driver.specs.AnswerLaws.{KeepsLaws};
 ghost use Rattle.csl_driver.specs.declared.account.Account.{Account};
-ghost use Rattle.csl_entries.specs.Entries.{distinct};
-ghost use Rattle.csl_passes.specs.Request.{cited};
-ghost use Rattle.csl_round_laws.specs.declared.mode.RoundMode.{RoundMode};
-ghost use Rattle.csl_writers.specs.Writing.{Writing};
+ghost use Rattle.driver_entries.specs.Entries.{distinct};
+ghost use Rattle.driver_passes.specs.Request.{cited};
+ghost use Rattle.rounds_runs.specs.declared.mode.RoundMode.{RoundMode};
+ghost use Rattle.driver_writers.specs.Writing.{Writing};
 ghost use Rattle.test_wrong_answers.specs.Letters.{IsPlainAccount, letters};
 ghost use Rattle.test_wrong_answers.specs.Listed.{listing, two_listed};
 ghost use Rattle.test_wrong_answers.specs.Silent.{same_sample};

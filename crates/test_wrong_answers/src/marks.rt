@@ -1,10 +1,10 @@
 //! States that no mark gives, and rounds that mark nothing.
 ghost use Rattle.std.specs.Prelude.{◌≡◌, None, Some, slice_index_or};
-ghost use Rattle.csl_lookup.specs.declared.state.DisambiguateState.{DisambiguateState};
-ghost use Rattle.csl_round_laws.specs.Rounds.{no_states};
-ghost use Rattle.csl_round_laws.specs.RunLaws.{IsLawful, RoundsMark, StatesGoOn, SuffixesStay};
-ghost use Rattle.csl_round_laws.specs.Tables.{tables};
-ghost use Rattle.csl_round_laws.specs.declared.mode.RoundMode.{RoundMode};
+ghost use Rattle.driver_lookup.specs.declared.state.DisambiguateState.{DisambiguateState};
+ghost use Rattle.rounds_runs.specs.Rounds.{no_states};
+ghost use Rattle.rounds_runs.specs.RunLaws.{IsLawful, RoundsMark, StatesGoOn, SuffixesStay};
+ghost use Rattle.rounds_runs.specs.Tables.{tables};
+ghost use Rattle.rounds_runs.specs.declared.mode.RoundMode.{RoundMode};
 ghost use Rattle.test_wrong_answers.specs.Marks.{
   both_chosen,
   both_seven,
@@ -17,7 +17,7 @@ ghost use Rattle.test_wrong_answers.specs.Samples.{entry};
 ghost use Rattle.test_wrong_answers.specs.Silent.{same_sample, writing};
 
 use crate::sample::Sample;
-use csl_round_laws::laws::{nothing_is_left, ranks_rise, rounds_mark, states_go_on, suffixes_stay};
+use rounds_runs::laws::{nothing_is_left, ranks_rise, rounds_mark, states_go_on, suffixes_stay};
 
 /// Two undated works read alike, so that nothing marks, and both get the suffix 7 in a round that
 /// never was: no entry is to get a state, and no round is to be counted.

@@ -2,7 +2,7 @@
 ghost use Rattle.std.specs.Prelude.{◌≡◌, ◌-◌, ◌^◌, min, nat_eq};
 ghost use Rattle.csl_driver.specs.Account.{cost};
 ghost use Rattle.csl_driver.specs.AnswerLaws.{AreInOrder, HaveNumbersOnce};
-ghost use Rattle.csl_round_laws.specs.declared.mode.RoundMode.{RoundMode};
+ghost use Rattle.rounds_runs.specs.declared.mode.RoundMode.{RoundMode};
 ghost use Rattle.test_wrong_answers.specs.Counts.{sample_job};
 ghost use Rattle.test_wrong_answers.specs.Numbers.{
   after_grouping,

@@ -1,6 +1,6 @@
 //! Cites that grouping puts in a wrong order.
 ghost use Rattle.std.specs.Prelude.{true};
-ghost use Rattle.csl_grouping.specs.FinalOrder.{HasFinalOrder};
+ghost use Rattle.rounds_grouping.specs.FinalOrder.{HasFinalOrder};
 ghost use Rattle.test_wrong_answers.specs.Orders.{as_cited, by_a_stale_index, in_blocks};
 
 /// The index of a block is kept while cites are moved, so cites by A, B, A, A and B come out as A A

@@ -1,10 +1,10 @@
 //! States that rounds give to the wrong entries.
 ghost use Rattle.std.specs.Prelude.{◌≡◌, [], ◌∷◌, None, Some, map, slice_index_or};
-ghost use Rattle.csl_lookup.specs.declared.state.DisambiguateState.{DisambiguateState};
-ghost use Rattle.csl_round_laws.specs.Rounds.{no_states, told_by};
-ghost use Rattle.csl_round_laws.specs.RunLaws.{NothingLeft, StatesGoOn, SuffixesStay};
-ghost use Rattle.csl_round_laws.specs.Tables.{rounds, tables};
-ghost use Rattle.csl_round_laws.specs.declared.mode.RoundMode.{RoundMode};
+ghost use Rattle.driver_lookup.specs.declared.state.DisambiguateState.{DisambiguateState};
+ghost use Rattle.rounds_runs.specs.Rounds.{no_states, told_by};
+ghost use Rattle.rounds_runs.specs.RunLaws.{NothingLeft, StatesGoOn, SuffixesStay};
+ghost use Rattle.rounds_runs.specs.Tables.{rounds, tables};
+ghost use Rattle.rounds_runs.specs.declared.mode.RoundMode.{RoundMode};
 ghost use Rattle.test_wrong_answers.specs.Rounds.{
   alike,
   both_shown,
@@ -19,7 +19,7 @@ ghost use Rattle.test_wrong_answers.specs.Samples.{entry};
 ghost use Rattle.test_wrong_answers.specs.Silent.{same_sample, writing};
 
 use crate::sample::Sample;
-use csl_round_laws::laws::{nothing_is_left, states_go_on, suffixes_stay};
+use rounds_runs::laws::{nothing_is_left, states_go_on, suffixes_stay};
 
 /// Suffixes are counted by cite: of three cites that read alike, two of one entry and one of
 /// another, the entries get 1 and 2, where they are to get 0 and 1.

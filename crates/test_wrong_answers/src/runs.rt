@@ -1,7 +1,7 @@
 //! Runs of numbers that collapsing draws over what isn't one.
 ghost use Rattle.std.specs.Prelude.{Some};
-ghost use Rattle.csl_style_values.specs.declared.style.Collapse.{Collapse};
-ghost use Rattle.csl_collapse.specs.NumberLaws.{CanBeReadBack};
+ghost use Rattle.value_styles.specs.declared.style.Collapse.{Collapse};
+ghost use Rattle.rounds_grouping.specs.NumberLaws.{CanBeReadBack};
 ghost use Rattle.test_wrong_answers.specs.Runs.{
   over_the_gap,
   over_the_hidden_cite,
@@ -10,7 +10,7 @@ ghost use Rattle.test_wrong_answers.specs.Runs.{
 };
 
 use crate::sample::Sample;
-use csl_collapse::laws::collapsed_can_be_read_back;
+use rounds_grouping::collapse_laws::collapsed_can_be_read_back;
 
 /// The middle of 1, 2 and 4 is hidden, as if they were a run: between 1 and 4 the reader finds 3.
 /// They stay as they are.

@@ -4,7 +4,7 @@ use crate::origins::{Origin, Origins};
 use cite_host::answer::{Answer, ListedItem};
 use cite_pieces::pieces::Pieces;
 use cite_program::program::ProgramError;
-use csl_texts::quotes::QuoteMarks;
+use cite_texts::quotes::QuoteMarks;
 use std::alloc::{AllocError, Global};
 use style_file::style::CslStyle;
 

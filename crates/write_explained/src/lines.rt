@@ -1,9 +1,9 @@
 //! The texts of a stream, and who wrote each.
 use cite_pieces::piece::{Mark, Piece, Wrap};
 use cite_pieces::pieces::Pieces;
+use cite_texts::lines::is_control;
+use cite_texts::quotes::QuoteMarks;
 use cite_walk::cite::marked_step;
-use csl_texts::lines::is_control;
-use csl_texts::quotes::QuoteMarks;
 use std::alloc::{AllocError, Global};
 
 /// Who wrote a text.

@@ -1,6 +1,6 @@
 //! The text of a style file: its lines, and its start tags.
 use std::alloc::{AllocError, Global};
-use xml_reader::error::Place;
+use style_xml::error::Place;
 
 /// The text of a style file, with the places of its elements.
 #[derive(Drop)]

@@ -1,8 +1,8 @@
 //! A stream in a form.
 use cite_pieces::pieces::Pieces;
 use cite_pieces::plain::plain_text;
+use cite_texts::quotes::QuoteMarks;
 use cite_trees::shown::shown_tree;
-use csl_texts::quotes::QuoteMarks;
 use std::alloc::{AllocError, Global};
 use write_html::html::html;
 use write_markup::latex::latex;

@@ -1,8 +1,8 @@
 //! An item of a bibliography in a form.
 use crate::forms::{Form, written};
 use cite_pieces::pieces::Pieces;
+use cite_texts::quotes::QuoteMarks;
 use cite_trees::shown::shown_tree;
-use csl_texts::quotes::QuoteMarks;
 use std::alloc::{AllocError, Global};
 use write_markup::items::ItemRuns;
 use write_markup::latex::{latex_entry, latex_item};

@@ -7,7 +7,7 @@ use lib.Utf8.{encodes}
 use Rattle.cite_pieces.specs.declared.piece.Piece.{Piece}
 use Rattle.cite_pieces.specs.declared.piece.Piece.TheVariants.{Open, Close}
 use Rattle.cite_pieces.specs.declared.piece.Wrap.{Wrap}
-use Rattle.csl_texts.specs.declared.quotes.QuoteMarks.{QuoteMarks}
+use Rattle.cite_texts.specs.declared.quotes.QuoteMarks.{QuoteMarks}
 use Rattle.write_html.specs.Page.{are_quotes, open_quotes, with_characters, with_pieces, with_pieces_in}
 use Rattle.write_html.specs.Shown.{base, in_line, inside, is_quotes, shown, spoken}
 use Rattle.write_html.specs.Text.{text_in}

@@ -6,7 +6,7 @@ use Rattle.std.specs.List.{list_all}
 use Rattle.std.specs.Str.{byte}
 use Rattle.std.proofs.lemmas.Str.{encode_ascii}
 use lib.Utf8.{encode, encodes}
-use Rattle.csl_texts.specs.Lines.{is_of_no_line}
+use Rattle.cite_texts.specs.Lines.{is_of_no_line}
 use Rattle.write_html.specs.Nesting.{Leads}
 use Rattle.write_html.specs.Reading.{Token, Letter, Reference, Tag, InText, behind, tokens, where_after}
 use Rattle.write_html.specs.Shown.{in_line}

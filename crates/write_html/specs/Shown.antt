@@ -7,8 +7,8 @@ use Rattle.cite_pieces.specs.declared.piece.Piece.{Piece}
 use Rattle.cite_pieces.specs.declared.piece.Piece.TheVariants.{Text, Open, Close}
 use Rattle.cite_pieces.specs.declared.piece.Wrap.{Wrap}
 use Rattle.cite_pieces.specs.declared.piece.Wrap.TheVariants.{Quotes}
-use Rattle.csl_texts.specs.Lines.{is_of_no_line}
-use Rattle.csl_texts.specs.declared.quotes.QuoteMarks.{QuoteMarks}
+use Rattle.cite_texts.specs.Lines.{is_of_no_line}
+use Rattle.cite_texts.specs.declared.quotes.QuoteMarks.{QuoteMarks}
 use Rattle.write_html.specs.Text.{text_in}
 use Rattle.write_html.specs.declared.superscripts.TheConstants.{SUPERSCRIPTS}
 

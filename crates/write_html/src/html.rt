@@ -32,7 +32,7 @@ use crate::tags::Tags;
 use cite_pieces::formatting::TextFormatting;
 use cite_pieces::piece::{Piece, Wrap};
 use cite_pieces::pieces::Pieces;
-use csl_texts::quotes::QuoteMarks;
+use cite_texts::quotes::QuoteMarks;
 use std::alloc::{AllocError, Global};
 use style_file::formatting::VerticalAlign;
 

@@ -15,7 +15,7 @@ ghost use Rattle.std.specs.Prelude.{
   string_bytes,
   vec_len,
 };
-ghost use Rattle.csl_texts.specs.Lines.{is_of_no_line};
+ghost use Rattle.cite_texts.specs.Lines.{is_of_no_line};
 ghost use Rattle.write_html.specs.Names.{names, tag_name};
 ghost use Rattle.write_html.specs.Nesting.{IsHtml, Leads, Opens};
 ghost use Rattle.write_html.specs.Shown.{continued};
@@ -23,7 +23,7 @@ ghost use Rattle.write_html.specs.Text.{text_in};
 
 use crate::addresses::Address;
 use crate::tag::{Format, Tag, opening_of_display};
-use csl_texts::lines::is_control;
+use cite_texts::lines::is_control;
 use std::alloc::{AllocError, Global};
 use style_file::formatting::Display;
 

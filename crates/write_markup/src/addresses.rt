@@ -1,7 +1,7 @@
 //! Addresses in the texts of a reference list: URLs and DOIs lead there.
 use crate::runs::{Run, TextRun};
 use crate::spans::{Kind, Span, spans};
-use csl_texts::addresses::url_address;
+use cite_texts::addresses::url_address;
 use std::alloc::{AllocError, Global};
 
 /// The runs, with a text of its own for each URL and each DOI of a text, which leads there. Texts

@@ -1,5 +1,5 @@
 //! Texts on a line, and the spaces between them.
-use csl_texts::lines::is_control;
+use cite_texts::lines::is_control;
 use std::alloc::{AllocError, Global};
 
 /// The text with a space for each run of characters that end a line, or are tabs; other control

@@ -1,9 +1,9 @@
 //! Runs of trees.
 use crate::runs::{ElementRun, Run, TextRun};
 use crate::spaces::single_spaced;
+use cite_texts::addresses::url_address;
 use csl_base::elem::{Elem, ElemChild, ElemChildren, ElemMeta};
 use csl_base::formatting::Formatting;
-use csl_texts::addresses::url_address;
 use std::alloc::{AllocError, Global};
 
 /// The runs of a tree. A cite leads to the target at its place, unless a text in it leads

@@ -118,6 +118,68 @@ class MadeUpStyle(MadeUpLibrary):
         return _library._loaded().gamhilon_read_references(*given)
 
 
+class MadeUpSessions(MadeUpStyle):
+    """Stands in for a library that has sessions too, which nothing that is wrong comes to."""
+
+    def __init__(self):
+        super().__init__()
+        self._sessions = {}
+
+    def gamhilon_session_open(self, session, *texts):
+        session._obj.held = len(self._sessions) + 1
+        self._sessions[session._obj.held] = MadeUpSession()
+        return 0
+
+    def gamhilon_session_put_items(self, session, items):
+        self._sessions[session._obj.held].items.update(
+            {item['id']: item for item in json.loads(items.bytes)})
+        return 0
+
+    def gamhilon_session_set_citations(self, session, citations):
+        self._sessions[session._obj.held].citations = json.loads(citations.bytes)
+        return 0
+
+    def gamhilon_session_answer(self, session, *buffer):
+        held = self._sessions[session._obj.held]
+        text = held.answer = held.answer or json.dumps(held.changes()).encode()
+        status = self._put(text, 0, b'', 0, *buffer)
+        if status == 0:
+            held.answer = b''
+        return status
+
+    def gamhilon_session_warnings(self, session, *buffer):
+        return self._put(b'{"warnings":[]}', 0, b'', 0, *buffer)
+
+    def gamhilon_session_close(self, session):
+        session._obj.held = 0
+
+
+class MadeUpSession:
+    """A session of the made-up style, and what it answered last."""
+
+    def __init__(self):
+        self.items, self.citations, self.answer = {}, [], b''
+        self._last = {'citations': {}, 'bibliography': {}}
+
+    def changes(self):
+        """What changed since the answer before."""
+        citations = {one['citationID']: {'content': _citation(self.items, one['citationItems'])}
+                     for one in self.citations}
+        cited = {cite['id'] for one in self.citations for cite in one['citationItems']}
+        listed = {key: {'key': key, 'content': [_text(key)]} for key in self.items if key in cited}
+        said = {'citations': self._changed('citations', citations, 'key', 'citation'),
+                'bibliography': self._changed('bibliography', listed, 'id', 'item')}
+        said['bibliography'].update(hanging_indent=True, line_spacing=1, entry_spacing=1)
+        return said
+
+    def _changed(self, part, now, key, whole):
+        before, self._last[part] = self._last[part], now
+        said = {'changed': [{key: name, whole: value} for name, value in now.items()
+                            if before.get(name) != value],
+                'gone': [name for name in before if name not in now]}
+        return said if list(before) == list(now) else {**said, f'{key}s': list(now)}
+
+
 class FaultyStyle(MadeUpStyle):
     """A made-up style that is refused where its text has a mark, and warned of where it has the
     words `odd here`, each with the line and the column of that."""

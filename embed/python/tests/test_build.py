@@ -71,10 +71,10 @@ def tree(tmp_path, monkeypatch):
         shutil.copy(f'{ROOT}/{name}', root)
     shutil.copytree(f'{PROJECT}/../org', root / 'embed' / 'org')
     shutil.copytree(f'{ROOT}/examples/styles', root / 'examples' / 'styles')
-    for name in ('gamhilon_c', 'cite_run', 'gamhilon', 'english_locale/src'):
+    for name in ('gamhilon_c', 'cite_run', 'gamhilon', 'style_english/src'):
         (root / 'crates' / name).mkdir(parents=True)
-    shutil.copy(f'{ROOT}/crates/english_locale/src/words.rt',
-                root / 'crates' / 'english_locale' / 'src')
+    shutil.copy(f'{ROOT}/crates/style_english/src/words.rt',
+                root / 'crates' / 'style_english' / 'src')
     (root / 'crates' / 'cite_run' / 'stdin').write_text('{}')
     crates = ('one: json\ntwo: one\ngamhilon_c staticlib: two  # the library\n'
               'cite_run: two\ngamhilon: two\n')

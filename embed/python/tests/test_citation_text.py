@@ -234,3 +234,28 @@ def test_locales_name_the_kinds_of_csl(published):
     words = _locators.words_of('fr-FR')
     assert words['chapitre'] == 'chapter' and words['p.'] == 'page'
     assert set(words.values()) <= set(csl.LABELS) and locales.FOLDER
+
+
+USUAL = ['', 'see ', 'e.g. ', 'See, chap. one ', 'a.b ', 'x', 'a..b ', '\u00e9 ', '(see) ', '-',
+         ' ']
+BEHIND = ['', ', p. 3', ' p. 3-4, passim', ', {p. 3}', '; @roe', ' -@roe', ', 3\u20135.', ',, ,',
+          ': x', '. ', ', "x', ', *x', ' x_y', '\n3', ', a\u201c;\u201d', ' ~x', ', http://a.b',
+          '*']
+AROUND = ['', ' x', '(y)', '[y]', '{y}', '(', ':']
+
+
+def test_usual_citations_are_read_as_others_are(monkeypatch):
+    """In one step, and in several."""
+    texts = [f'Words{space}[{words}{mark}{key}{suffix}]{around} and more'
+             for space in (' ', '') for words in USUAL for mark in ('@', '-@')
+             for key in ('doe99', 'a:b', 'x.', '*') for suffix in BEHIND for around in AROUND]
+    texts = Random(4).sample(texts, 2000)
+    found = [gamhilon.find_citations(text) for text in texts]
+    monkeypatch.setattr(citation_text, '_USUAL', re.compile('(?!)'))
+    assert found == [gamhilon.find_citations(text) for text in texts]
+    assert sum(map(bool, found)) > len(texts) / 3
+
+
+def test_a_bracket_that_never_closes_is_read_at_once():
+    text = '[@doe' + ', ' * 20000
+    assert [one.cites[0].id for one in gamhilon.find_citations(text)] == ['doe']

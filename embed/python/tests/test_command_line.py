@@ -54,8 +54,9 @@ def test_render_in_each_form(built, example):
     path = f'{ROOT}/examples/first.json'
     assert run('render', path) == (0, example('first.txt'), '')
     assert run('render', '-', given=example('first.json').encode()) == (0, example('first.txt'), '')
-    outputs = {form: run('render', path, '--to', form)
+    outputs = {form: run('render', path, '--to', form, '--link-citations')
                for form in ('html', 'markdown', 'latex', 'json')}
+    assert '<a href="#ref' not in run('render', path, '--to', 'html')[1]
     assert all(status == 0 and error == '' for status, _, error in outputs.values())
     assert '<i>On the Origin of Species</i>' in outputs['html'][1]
     assert '<div id="ref-darwin" class="csl-entry">' in outputs['html'][1]

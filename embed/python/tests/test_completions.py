@@ -62,13 +62,14 @@ def test_in_bash(place):
     assert offered('gamhilon', '') == sorted(COMMANDS)
     assert offered('gamhilon', 'help', 'c') == ['check', 'cite', 'css']
     assert offered('gamhilon', '--v') == ['--version']
-    assert offered('gamhilon', 'render', '--') == ['--depth', '--elements', '--help', '--to']
+    assert offered('gamhilon', 'render', '--') == [
+        '--depth', '--elements', '--help', '--link-citations', '--standalone', '--to']
     assert offered('gamhilon', 'cite', '--w') == ['--with-bibliography']
     assert offered('gamhilon', 'bibliography', '--w') == []
     forms = ['html', 'json', 'latex', 'markdown', 'text']
     assert offered('gamhilon', 'cite', '--to', '') == forms
-    assert offered('gamhilon', 'render', '--to', '=', '') == ['json', 'text']
-    assert offered('gamhilon', 'render', '--to', '=') == ['json', 'text']
+    assert offered('gamhilon', 'render', '--to', '=', '') == forms
+    assert offered('gamhilon', 'explain', '--to', '=') == ['html', 'json']
     assert offered('gamhilon', 'render', '--to', '=', 'j') == ['json']
     files = ['folder', 'library.json', 'mine.csl']
     assert offered('gamhilon', 'cite', '--style', '') == sorted([*STYLES, *files])
@@ -109,7 +110,7 @@ def test_in_fish(place):
     assert offered('gamhilon cite --w') == ['--with-bibliography']
     assert offered('gamhilon bibliography --w') == []
     assert offered('gamhilon cite --to ') == ['html', 'json', 'text']
-    assert offered('gamhilon render --to=') == ['--to=json', '--to=text']
+    assert offered('gamhilon explain --to=') == ['--to=html', '--to=json']
     assert set(offered('gamhilon cite --style ')) >= {*STYLES, 'mine.csl'}
     assert 'labels' in offered('gamhilon cite --style la')
     assert offered('gamhilon styles n') == ['notes', 'numeric']

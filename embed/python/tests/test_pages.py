@@ -130,12 +130,16 @@ def test_the_commands_write_the_style_sheet(monkeypatch, tmp_path, capfd, docume
     path = tmp_path / 'a.json'
     path.write_text(json.dumps({**document('author_date'), 'entries': entries,
                                 'requests': requests}))
-    assert command_line.main(['render', '--to', 'html', '--standalone', str(path)]) == 0
+    words = ['render', '--to', 'html', '--standalone', str(path)]
+    assert command_line.main([*words, '--link-citations']) == 0
     page = capfd.readouterr().out
     assert page.startswith('<!DOCTYPE html>\n<html lang="en">\n') and gamhilon.style_sheet() in page
     assert '<p class="citation">(<a href="#ref-doe">Doe 1999</a>)</p>\n<div id="refs"' in page
+    assert command_line.main(words) == 0
+    plain = capfd.readouterr().out
+    assert '<p class="citation">(Doe 1999)</p>\n<div id="refs"' in plain
     assert command_line.main(['render', '--standalone', str(path)]) == 0
-    assert capfd.readouterr().out == page
+    assert capfd.readouterr().out == plain
     with pytest.raises(SystemExit) as ended:
         command_line.main(['render', '--standalone', '--to', 'text', str(path)])
     assert ended.value.code == 64

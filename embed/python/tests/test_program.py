@@ -71,6 +71,15 @@ def test_answers_as_json_are_the_same(both, command):
     assert one == other
 
 
+@pytest.mark.parametrize('form', ['markdown', 'latex'])
+@pytest.mark.parametrize('words', [[], ['--link-citations']])
+def test_citations_with_links_are_the_same(both, form, words):
+    """Without that option no cite is a link."""
+    program, command = both('cite', '--style', f'{STYLES}/author-date.csl', *WORKS, '--to', form,
+                            *words)
+    assert program == command and program[0] == 0 and ('ref-' in program[1]) == bool(words)
+
+
 @pytest.mark.parametrize('command', ['cite', 'bibliography'])
 def test_pages_have_the_same_text(both, command):
     """Their tags differ: those of this package have the classes of its style sheet, and ids."""
@@ -151,6 +160,16 @@ def test_styles_are_the_same(both, has):
 def test_documents_are_rendered_the_same(both, has, name):
     has('render')
     program, command = both('render', f'{ROOT}/examples/{name}.json')
+    assert program == command and program[0] == 0
+
+
+@pytest.mark.parametrize('name', ['first', 'author_date', 'note', 'numeric', 'alphanumeric'])
+@pytest.mark.parametrize('words', [
+    ['--to', 'markdown'], ['--to', 'markdown', '--link-citations'],
+    ['--to', 'latex'], ['--to', 'latex', '--link-citations'],
+])
+def test_documents_are_rendered_the_same_in_languages_of_markup(both, name, words):
+    program, command = both('render', *words, f'{ROOT}/examples/{name}.json')
     assert program == command and program[0] == 0
 
 

@@ -3,10 +3,11 @@ from random import Random
 
 import pytest
 from conftest import REFERENCES
-from stand_ins import MadeUpStyle, NumberedStyle
+from stand_ins import MadeUpSessions, MadeUpStyle, NumberedStyle
 from test_markdown_pages import PARTS, made_up_page
 
 from gamhilon import _library, markdown_pages
+from gamhilon._page_writers import HtmlInMarkdown
 
 PAGES = {
     'one': 'A [@doe99].\n\nB @roe00, c[^n].\n\n[^n]: In [@doe01].\n',
@@ -21,7 +22,9 @@ class Library:
     def __init__(self, kind, monkeypatch):
         self.calls = 0
         functions = kind()
-        for name in ('gamhilon_cite', 'gamhilon_find_cite_fault'):
+        for name in ('gamhilon_cite', 'gamhilon_find_cite_fault', 'gamhilon_session_set_citations'):
+            if not hasattr(functions, name):
+                continue
             setattr(functions, name, self._counted(getattr(functions, name)))
         monkeypatch.setattr(_library, '_library', _library.Library(functions))
 
@@ -32,7 +35,7 @@ class Library:
         return called
 
 
-@pytest.fixture(params=[MadeUpStyle, NumberedStyle])
+@pytest.fixture(params=[MadeUpStyle, NumberedStyle, MadeUpSessions])
 def library(request, monkeypatch):
     return Library(request.param, monkeypatch)
 
@@ -88,6 +91,25 @@ def test_other_pages_are_not_drawn_where_the_same_is_written_of_them(monkeypatch
     site = site_of(PAGES, list_page='three')
     assert site.revise({'two': 'D [@doe99].\n'}) == ['two']
     assert site.page('two').text == 'D ([Doe, On Order](#ref-doe99)).\n'
+
+
+@pytest.mark.parametrize('kind', [MadeUpStyle, NumberedStyle])
+def test_usual_citations_are_written_as_all_others(kind, monkeypatch):
+    Library(kind, monkeypatch)
+    random = Random(7)
+    texts = {f'page{number}': made_up_page(random, PARTS) for number in range(300)}
+    found = []
+
+    def unformatted(*given):
+        found.append(usual(*given))
+        return found[-1]
+
+    usual = HtmlInMarkdown.unformatted
+    monkeypatch.setattr(HtmlInMarkdown, 'unformatted', unformatted)
+    written = shown(site_of(texts, html=True))
+    assert len([text for text in found if text]) > 300
+    monkeypatch.setattr(HtmlInMarkdown, 'unformatted', lambda *given: None)
+    assert written == shown(site_of(texts, html=True))
 
 
 @pytest.mark.parametrize('style', ['author-date', 'notes'])

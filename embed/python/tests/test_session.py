@@ -1,11 +1,13 @@
 """Sessions. What is expected was worked out by hand from CSL 1.0.2, or is what `render` gives of
 the same."""
+import json
 import operator
 from random import Random
 
 import pytest
 
 from gamhilon import csl
+from gamhilon.csl.cites import CitationPart, CitationParts
 from gamhilon.csl.session import KeyChanges, differing, key_changes
 
 
@@ -169,3 +171,26 @@ def test_a_draft_shows_what_is_missing(cites):
 def test_no_draft_refuses_what_is_missing(cites):
     with pytest.raises(csl.CitationRefused):
         csl.render('author-date', WORKS, [[{'id': 'nobody'}]])
+
+
+def test_citations_in_parts_keep_their_keys_where_others_change():
+    cites = [csl.Citation((csl.Cite(key),), note) for key, note in (('doe99', 3), ('roe00', None))]
+    one, other, more = CitationPart(cites), CitationPart(cites), CitationPart([])
+    first = json.loads(CitationParts([one, more, other]).keyed_json())
+    assert len({citation['citationID'] for citation in first}) == 4
+    assert first[0]['properties'] == {'noteIndex': 3}
+    assert first[1]['citationItems'] == [{'id': 'roe00'}]
+    assert json.loads(CitationParts([CitationPart(cites), other]).keyed_json())[2:] == first[2:]
+    assert json.loads(CitationParts([one, other]).json()) == 2 * [it.data() for it in cites]
+
+
+def test_the_json_of_a_cite_is_that_of_its_data():
+    for number in range(2 ** 8):
+        with_one, with_many = number & 1, number & 2
+        cite = csl.Cite('a"é', '3–5' if number & 4 else None, 'chapter' if number & 4 else 'page',
+                        'see \U000F0000' if number & 8 else '', ', 4\n' if number & 16 else '',
+                        bool(number & 32), bool(number & 64), bool(number & 128),
+                        2 if with_one else None)
+        citation = csl.Citation((cite,) * (3 if with_many else 1), 4 if with_one else None)
+        assert json.loads(cite.json) == cite.data()
+        assert json.loads(citation.json) == citation.data()

@@ -114,7 +114,7 @@ def test_links_lead_where_those_of_the_writer_of_styles_do(url, wanted):
 
 
 def test_the_schemes_of_links_are_those_of_the_writer_of_styles():
-    with open(ROOT + '/crates/csl_texts/src/addresses.rt', encoding='utf-8') as file:
+    with open(ROOT + '/crates/cite_texts/src/addresses.rt', encoding='utf-8') as file:
         listed = re.search(r'pub const SCHEMES: [^=]*= &\[(.*?)\];', file.read()).group(1)
     assert re.findall('"(.*?)"', listed) == list(SCHEMES)
 

@@ -1,6 +1,6 @@
 -- The status of a refusal says what the check says.
 use Rattle.std.proofs.Common.{◌∙◌}
-use Rattle.cite_document.specs.Limited.{styles_in}
+use Rattle.document_answer.specs.Limited.{styles_in}
 use Rattle.gamhilon_c.proofs.Limited.{refused}
 use Rattle.gamhilon_c.proofs.gamhilon_check_limits.Goals as goal
 

@@ -1,5 +1,5 @@
 -- What is handed out is of the document.
-use Rattle.cite_document.specs.Print.{json_text}
+use Rattle.document_answer.specs.Print.{json_text}
 use Rattle.gamhilon_c.proofs.Calls.{called}
 use Rattle.gamhilon_c.proofs.gamhilon_render_json.Goals as goal
 

@@ -1,5 +1,5 @@
 -- What is handed out is of the document.
-use Rattle.cite_document.specs.Print.{print}
+use Rattle.document_answer.specs.Print.{print}
 use Rattle.gamhilon_c.proofs.Calls.{called}
 use Rattle.gamhilon_c.proofs.gamhilon_render_text.Goals as goal
 

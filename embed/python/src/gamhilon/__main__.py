@@ -136,6 +136,8 @@ def _add_cite(commands: Any) -> None:
                                'question mark')
         _add_style_limits(made)
         _add_forms(made)
+        if name == 'cite':
+            _add_links(made)
 
 
 def _add_style_limits(command: argparse.ArgumentParser) -> None:
@@ -156,12 +158,18 @@ def _add_forms(command: argparse.ArgumentParser) -> None:
                          help='a whole page, with the style sheet (of the form html alone)')
 
 
+def _add_links(command: argparse.ArgumentParser) -> None:
+    command.add_argument('--link-citations', dest='links', action='store_true',
+                         help='cites lead to their items, in HTML, Markdown and LaTeX')
+
+
 def _add_render(commands: Any) -> None:
     render = commands.add_parser('render', help='the citations and the bibliography of a document')
     render.add_argument('document', metavar='FILE',
                         help='a document (docs/DOCUMENT.md), - for standard input, or a folder of '
                              'documents')
     _add_forms(render)
+    _add_links(render)
     render.add_argument('--jobs', type=_count, metavar='N', default=1,
                         help='how many processes answer the documents of a folder (1)')
     render.add_argument('--output', metavar='FOLDER',
@@ -238,7 +246,8 @@ def _asked(words: argparse.Namespace) -> Asked:
     """What a command line of `cite` or `bibliography` asks for."""
     return Asked(words.style, words.styles, words.locale, words.locales, words.abbreviations,
                  words.to, words.standalone, [words.references, *words.more], words.citations,
-                 words.nocite, words.most_steps, words.most_bytes, words.draft)
+                 words.nocite, words.most_steps, words.most_bytes, words.draft,
+                 getattr(words, 'links', False))
 
 
 def run(words: argparse.Namespace) -> int:
@@ -256,7 +265,8 @@ def run(words: argparse.Namespace) -> int:
         elif words.command == 'org':
             return org_command(words.style)
         elif words.command == 'render':
-            job = Job(words.to, words.standalone, Limits(words.depth, words.elements))
+            job = Job(words.to, words.standalone, Limits(words.depth, words.elements),
+                      words.links)
             return render_command(words.document, words.output, job, words.jobs)
         elif words.command == 'check':
             return check_command(words.files, Limits(words.depth, words.elements))

@@ -12,6 +12,11 @@ from .answer import Answer
 from .errors import Refused
 
 Item = Dict[str, Any]
+Keys = List[List[str]]
+"""For each citation the ids to whose items its cites lead."""
+
+Writer = Callable[[Answer, Keys], str]
+"""Writes an answer in a form."""
 
 
 @dataclass(frozen=True)
@@ -31,6 +36,7 @@ class Asked:
     most_steps: Optional[int] = None
     most_bytes: Optional[int] = None
     is_draft: bool = False
+    links: bool = False
 
     def inputs(self) -> int:
         """How many of the files are standard input."""
@@ -55,7 +61,7 @@ class _Failed(Exception):
 
 def cite_command(asked: Asked) -> int:
     """Writes each citation."""
-    return _written(asked, lambda answer: pages.citations_in(asked.form, answer))
+    return _written(asked, lambda answer, keys: pages.citations_in(asked.form, answer, keys))
 
 
 def bibliography_command(asked: Asked) -> int:
@@ -63,15 +69,15 @@ def bibliography_command(asked: Asked) -> int:
     return _written(asked, _bibliography_in(asked))
 
 
-def _bibliography_in(asked: Asked) -> Callable[[Answer], str]:
-    def written(answer: Answer) -> str:
+def _bibliography_in(asked: Asked) -> Writer:
+    def written(answer: Answer, _keys: Keys) -> str:
         if answer.bibliography is None and asked.form != 'json':
             say(f'{name_of(asked.style)}: warning: the style has no bibliography')
         return pages.bibliography_in(asked.form, answer)
     return written
 
 
-def _written(asked: Asked, written: Callable[[Answer], str]) -> int:
+def _written(asked: Asked, written: Writer) -> int:
     """Writes what comes of a document, and tells on standard error what is odd in it."""
     try:
         works = _works(asked.references)
@@ -81,7 +87,9 @@ def _written(asked: Asked, written: Callable[[Answer], str]) -> int:
         return failure.status
     for warned in rendered.warnings:
         say(_warning(asked, works, warned))
-    text = written(Answer(rendered.answer.citations[:shown], rendered.answer.bibliography))
+    keys = [[cite.id for cite in cites] if asked.links else [] for cites in rendered.cites]
+    answer = Answer(rendered.answer.citations[:shown], rendered.answer.bibliography)
+    text = written(answer, keys[:shown])
     _console.write(pages.standalone(text) if asked.is_standalone else text)
     return 0
 

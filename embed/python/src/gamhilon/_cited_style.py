@@ -10,7 +10,7 @@ from ._locators import words_of
 from ._pandoc_marks import without_marks
 from .answer import Bibliography, Citation, Tree
 from .csl.abbreviations import abbreviations_of
-from .csl.cites import CitationPart, CitationParts, CitationReader
+from .csl.cites import CitationPart, CitationParts, CitationReader, is_settled
 from .csl.kept import Kept
 from .csl.rendering import Renderer, read_entries
 from .csl.style import load
@@ -77,8 +77,8 @@ class Asking:
         keeps_authors = keeps_authors and True in self.are_named
         if keeps_authors not in self._parts:
             asked = [citation.asked(keeps_authors) for citation in self.citations]
-            is_settled = all(citation.is_settled for citation in asked)
-            self._parts[keeps_authors] = CitationPart(asked) if is_settled else None
+            are_settled = all([is_settled(cite) for citation in asked for cite in citation.cites])
+            self._parts[keeps_authors] = CitationPart(asked) if are_settled else None
         return self._parts[keeps_authors]
 
 

@@ -4,7 +4,7 @@ from __future__ import annotations
 
 import re
 from dataclasses import dataclass, field
-from typing import Dict, Iterator, List, NamedTuple, Optional, Set, Tuple
+from typing import Dict, List, NamedTuple, Optional, Set, Tuple
 
 __all__ = ['Blocks', 'Heading', 'Paragraph', 'blocks_of', 'front_matter_in', 'label_of']
 
@@ -26,6 +26,8 @@ _DIV = re.compile(r'(:{3,})[ \t]*(.*?)[ \t:]*$')
 _HEADING = re.compile(r'(#{1,6})(?:[ \t]+(.*?))?[ \t]*#*[ \t]*$')
 _UNDERLINE = re.compile(r'(=+|-+)[ \t]*$')
 _RULE = re.compile(r'(?:[-*_][ \t]*){3,}$')
+# (lines that begin with two letters, up to a blank line, and the line feeds behind them)
+_USUAL = re.compile(r'((?:[^\W\d_]{2}[^\n]*\n)+)(?:\n+|\Z)')
 _ATTRIBUTES = re.compile(r'[ \t]*\{[^{}]*\}$')
 _END_OF_COMMENT = '-->'
 _RAW_STARTS = (
@@ -125,27 +127,38 @@ class _Reader:
         self.divs: List[Tuple[str, int]] = []
 
     def read(self) -> Blocks:
-        for line in self._lines():
-            if self.fence is not None and self._in_fence(line):
-                continue
-            if self.raw_until is not None:
-                self._in_raw(line)
-                continue
-            if line.at == line.end:
-                self._close()
-                continue
-            self._begin(line)
+        front = _FRONT_MATTER.match(self.text)
+        at, end = front.end() if front else 0, len(self.text)
+        while at < end:
+            at = self._past_usual(at) or self._past_line(at)
         self._close()
         return self.found
 
-    def _lines(self) -> Iterator[_Line]:
-        front = _FRONT_MATTER.match(self.text)
-        at = front.end() if front else 0
-        while at < len(self.text):
-            end = self.text.find('\n', at)
-            end = len(self.text) if end < 0 else end
-            yield self._line(at, end)
-            at = end + 1
+    def _past_usual(self, at: int) -> Optional[int]:
+        """Where the next block begins, if a paragraph begins here that is as most are: outside of
+        all others, of text alone, up to a blank line."""
+        if self.open is not None or self.fence is not None or self.raw_until is not None:
+            return None
+        usual = _USUAL.match(self.text, at)
+        if usual is None:
+            return None
+        self.containers = []
+        self.found.paragraphs.append(Paragraph(at, usual.end(1) - 1, None))
+        return usual.end()
+
+    def _past_line(self, at: int) -> int:
+        """Where the next line begins, once the line here is read."""
+        end = self.text.find('\n', at)
+        line = self._line(at, len(self.text) if end < 0 else end)
+        if self.fence is not None and self._in_fence(line):
+            pass
+        elif self.raw_until is not None:
+            self._in_raw(line)
+        elif line.at == line.end:
+            self._close()
+        else:
+            self._begin(line)
+        return line.end + 1
 
     def _line(self, start: int, end: int) -> _Line:
         if self.text[start].isalpha():

@@ -16,7 +16,7 @@ WORD = re.compile(r'(?:[^\W_]|\.(?!\.))+')
 """A word, as pandoc reads one: behind it no `@` begins a citation."""
 
 _BEGINS_ADDRESS = r'(?:https?://|mailto:|www\.)'
-_PARTS_OF_ADDRESS = ('://', 'mailto:', 'www.')
+_OPENS_OPAQUE = re.compile(r'[\\`<${]')
 _MARK_OF_EMPHASIS = re.compile(r'[*_\\`<$]')
 _MARK_OF_PAIRS = re.compile(r'[\[\]\\`<${]')
 _MARK_OR_ADDRESS = re.compile(rf'[\[\]\\`<${{]|(?<![^\W_]){_BEGINS_ADDRESS}')
@@ -72,10 +72,11 @@ class InlineReader:
 
     def __init__(self, text: str) -> None:
         self.text = text
-        has_address = any(part in text for part in _PARTS_OF_ADDRESS)
+        has_address = '://' in text or 'mailto:' in text or 'www.' in text
         self.plain, self.plain_in_cite = _PLAIN[has_address], _PLAIN_IN_CITE[has_address]
         self._mark = _MARK_OR_ADDRESS if has_address else _MARK_OF_PAIRS
-        self._closing = self._pairs()
+        self.is_all_text = not has_address and _OPENS_OPAQUE.search(text) is None
+        self._closing: Optional[Dict[int, int]] = None
         self._emphases: Optional[Dict[int, int]] = None
 
     def end_of_inline(self, at: int, end: int) -> int:
@@ -113,6 +114,8 @@ class InlineReader:
 
     def closing_bracket(self, at: int, end: int) -> Optional[int]:
         """Where the bracket that opens at a place closes."""
+        if self._closing is None:
+            self._closing = self._pairs()
         closing = self._closing.get(at, end)
         return closing if closing < end else None
 

@@ -3,7 +3,6 @@ from __future__ import annotations
 
 import re
 from dataclasses import dataclass, field
-from functools import cached_property
 from typing import Callable, Dict, List, Mapping, Optional, Sequence, Set, Tuple, Union
 
 from . import csl
@@ -11,7 +10,7 @@ from ._cited_style import PageCitation
 from ._page_writers import PageWriter
 from ._pandoc_inlines import CLOSING_QUOTES
 from ._pandoc_marks import (Part, closing, first_cite, opening, parts_of, shown_in,
-                            text_of_pieces, without_empty)
+                            text_of_pieces, unformatted_part, without_empty)
 from ._pandoc_names import names_in
 from ._writing import Piece
 from .answer import Tree
@@ -61,7 +60,7 @@ class CitationOfPage(PageCitation):
     def keys(self) -> List[str]:
         return [cited.cite.id for cited in self.cited]
 
-    @cached_property
+    @property
     def names_author(self) -> bool:
         return self.is_in_text and bool(self.cited) and not self.keeps_names
 
@@ -84,8 +83,10 @@ class CitationOfPage(PageCitation):
         with may move into quotation marks before it."""
         is_named = place == 0 and self.names_author
         is_marked = bool(cited.prefix or cited.suffix) or is_named
-        suffix = _punctuation(cited.suffix.text) + closing(place) if cited.suffix else ''
         cite = cited.cite
+        if not is_marked and self.note is None:
+            return cite
+        suffix = _punctuation(cited.suffix.text) + closing(place) if cited.suffix else ''
         return csl.Cite(cite.id, cite.locator, cite.label, opening(place) if is_marked else '',
                         suffix, cite.suppress_author or is_named and not keeps_authors,
                         note=self.note)
@@ -144,6 +145,10 @@ class CitationWriter:
                 with_authors: Optional[Tree]) -> Written:
         """A citation, whose tree this is; and where its author stands in the text, the tree with
         it."""
+        if with_authors is None and citation.note is None:
+            usual = self._usual(citation, tree)
+            if usual is not None:
+                return Written([], [usual])
         made = Written([], [])
         parts = parts_of(tree)
         shown = shown_in(parts)
@@ -159,6 +164,42 @@ class CitationWriter:
                 made.lost.append(f'the style writes nothing of {cited.cite.id} but its author')
         made.begins_with_words = bool(places and citation.cited[places[0]].prefix)
         return made
+
+    def _usual(self, citation: CitationOfPage, tree: Tree) -> Optional[str]:
+        """The text of a citation as most are: without formatting, with each of its cites once. None
+        of another."""
+        written: List[Optional[str]] = []
+        shown: List[int] = []
+        for node in tree:
+            place, letters = unformatted_part(node)
+            if letters is None or place is None and letters[:1] == '.':
+                return None
+            if place is None:
+                written.append(self.writer.unformatted(letters))
+            elif place < len(citation.cited):
+                shown.append(place)
+                written.append(self._usual_cite(citation.cited[place], place, letters))
+        texts = [text for text in written if text is not None]
+        is_whole = len(texts) == len(tree) and sorted(shown) == [*range(len(citation.cited))]
+        return ''.join(texts) if is_whole else None
+
+    def _usual_cite(self, cited: Cited, place: int, letters: str) -> Optional[str]:
+        """A cite of which the style writes these letters, with the words of the page around it.
+        None where they have no mark at their ends, or the words have citations."""
+        prefix, suffix = cited.prefix, cited.suffix
+        if prefix or suffix:
+            before, behind = opening(place), ''
+            if suffix:
+                behind = _punctuation(suffix.text) + closing(place)
+            if prefix.citations or suffix.citations or not letters.startswith(before) \
+                    or not letters.endswith(behind):
+                return None
+            letters = letters[len(before):len(letters) - len(behind)]
+        target = self.targets.get(cited.cite.id)
+        text = self.writer.unformatted(letters, target) if letters.strip() else None
+        if text is None or not (prefix or suffix):
+            return text
+        return f'{prefix.text}{" " if prefix else ""}{text}{_behind(suffix.text, False)}'
 
     def text(self, runs: Sequence[Run]) -> str:
         """The text of runs, as it stands on the page."""

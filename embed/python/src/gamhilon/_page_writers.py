@@ -4,11 +4,11 @@ from __future__ import annotations
 import html
 import re
 from functools import lru_cache
-from typing import Optional, Sequence
+from typing import Dict, Optional, Sequence, Tuple
 
 from ._writing import Piece
-from .answer import Bibliography
-from .html_writer import bibliography_to_html, inline_html
+from .answer import Bibliography, Item
+from .html_writer import escaped, inline_html, item_to_html, list_to_html
 from .markdown_writer import begun, bibliography_to_markdown, inline_markdown
 
 _SPECIAL = re.compile(r'[\\`*_{}\[\]+!~^=|:$@]|(?<!&)#')
@@ -23,6 +23,11 @@ class PageWriter:
         """What stands in a line."""
         return inline_markdown(pieces)
 
+    def unformatted(self, letters: str, target: Optional[str] = None) -> Optional[str]:
+        """What stands in a line for letters without formatting, which lead to an address where one
+        is given; None where that depends on what stands around them."""
+        return None
+
     def begun(self, text: str) -> str:
         """What begins a block, so that it is no list."""
         return begun(text)
@@ -34,10 +39,20 @@ class PageWriter:
 
 
 class HtmlInMarkdown(PageWriter):
-    """Writes HTML, in which nothing is left that any kind of Markdown reads as its own."""
+    """Writes HTML, in which nothing is left that any kind of Markdown reads as its own. An item
+    that stands in many lists is written once."""
+
+    def __init__(self) -> None:
+        self._items: Dict[str, Tuple[Item, str]] = {}
 
     def inline(self, pieces: Sequence[Piece]) -> str:
         return in_markdown(inline_html(pieces))
+
+    def unformatted(self, letters: str, target: Optional[str] = None) -> Optional[str]:
+        if not letters.isprintable():
+            return None
+        text = in_markdown(escaped(letters))
+        return text if target is None else f'<a href="{escaped(target)}">{text}</a>'
 
     def begun(self, text: str) -> str:
         mark = _MARK.match(text)
@@ -47,7 +62,15 @@ class HtmlInMarkdown(PageWriter):
         return f'{text[:at]}&#{ord(text[at])};{text[at + 1:]}'
 
     def reference_list(self, bibliography: Optional[Bibliography]) -> str:
-        return bibliography_to_html(bibliography)
+        if bibliography is None:
+            return ''
+        return list_to_html(bibliography, list(map(self._item, bibliography.items)))
+
+    def _item(self, item: Item) -> str:
+        known = self._items.get(item.key)
+        if known is None or known[0] is not item:
+            known = self._items[item.key] = item, item_to_html(item)
+        return known[1]
 
 
 @lru_cache(maxsize=8192)

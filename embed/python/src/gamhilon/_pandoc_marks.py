@@ -7,9 +7,9 @@ no letter, and no style changes it.
 from __future__ import annotations
 
 import re
-from typing import Any, Callable, List, NamedTuple, Optional, Sequence, Set
+from typing import Any, Callable, List, NamedTuple, Optional, Sequence, Set, Tuple
 
-from ._writing import Piece, pieces
+from ._writing import Piece, is_unformatted, pieces
 from .answer import Node, Tree
 
 _FIRST = 0xF0000
@@ -48,6 +48,9 @@ def without_marks(value: Any) -> Any:
 def parts_of(tree: Tree) -> List[Part]:
     """The parts of a citation, of which this is the tree: what is of a cite by its mark or by the
     tree, and what is of none."""
+    usual = _usual_parts(tree)
+    if usual is not None:
+        return usual
     found: List[Part] = []
     outer: List[Optional[int]] = []
     inner: Optional[int] = None
@@ -55,11 +58,7 @@ def parts_of(tree: Tree) -> List[Part]:
     for piece in pieces(tree):
         kind, node, _ = piece
         if kind == 'text':
-            if node['text'].isascii():
-                if node['text']:
-                    _add(found, inner if marked is None else marked, piece)
-            else:
-                marked = _split(found, inner, marked, piece)
+            marked = _add_text(found, inner, marked, piece)
             continue
         entry = _entry_of(node) if kind != 'markup' else None
         if kind == 'open':
@@ -71,6 +70,33 @@ def parts_of(tree: Tree) -> List[Part]:
         if entry is None:
             _add(found, inner if marked is None else marked, piece)
     return found
+
+
+def _usual_parts(tree: Tree) -> Optional[List[Part]]:
+    """The parts of a citation whose cites are elements of texts alone, and whose other nodes are
+    texts; None of another."""
+    found: List[Part] = []
+    marked: Optional[int] = None
+    for node in tree:
+        entry = _entry_of(node) if 'children' in node else None
+        texts = [node] if entry is None else node['children']
+        for text in texts:
+            if 'text' not in text or 'children' in text:
+                return None
+            marked = _add_text(found, entry, marked, Piece('text', text))
+        marked = None if marked == entry else marked
+    return found
+
+
+def _add_text(found: List[Part], inner: Optional[int], marked: Optional[int],
+              piece: Piece) -> Optional[int]:
+    """Adds a text. Gives the cite whose mark is open behind it."""
+    text = piece.node['text']
+    if not text.isascii():
+        return _split(found, inner, marked, piece)
+    if text:
+        _add(found, inner if marked is None else marked, piece)
+    return marked
 
 
 def _split(found: List[Part], inner: Optional[int], marked: Optional[int],
@@ -93,6 +119,27 @@ def _add(found: List[Part], place: Optional[int], piece: Piece) -> None:
     if not found or found[-1].place != place:
         found.append(Part(place, []))
     found[-1].pieces.append(piece)
+
+
+def unformatted_part(node: Node) -> Tuple[Optional[int], Optional[str]]:
+    """A node of a citation: the place of its cite, if it is of one, and its letters with their
+    marks; None in place of these where something in it is formatted or set off."""
+    if 'children' not in node:
+        return None, node.get('text') if is_unformatted(node) else None
+    place = _entry_of(node)
+    if place is None or 'display' in node:
+        return place, None
+    found: List[str] = []
+    left = node['children'][::-1]
+    while left:
+        part = left.pop()
+        if 'children' in part and 'display' not in part and _entry_of(part) is None:
+            left += part['children'][::-1]
+        elif 'text' in part and is_unformatted(part):
+            found.append(part['text'])
+        else:
+            return place, None
+    return place, ''.join(found)
 
 
 def _entry_of(node: Node) -> Optional[int]:

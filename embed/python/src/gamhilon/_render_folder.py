@@ -33,12 +33,13 @@ class Job:
     form: str
     is_standalone: bool
     limits: Limits
+    links: bool = False
 
 
 def page_of(job: Job, document: bytes) -> str:
     """What is written of a document."""
     text = pages.written(job.form, document, partial(print_document, limits=job.limits),
-                         partial(print_json, limits=job.limits))
+                         partial(print_json, limits=job.limits), job.links)
     return pages.standalone(text) if job.is_standalone else text
 
 

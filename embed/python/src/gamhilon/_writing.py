@@ -9,7 +9,7 @@ from .answer import Node, Tree
 
 Escape = Callable[[str], str]
 
-# The schemes of links, as in crates/csl_texts/src/addresses.rt.
+# The schemes of links, as in crates/cite_texts/src/addresses.rt.
 SCHEMES = ('doi', 'http', 'https', 'mailto')
 _SAFE = "/:@!$&'()*+,;=~-._"
 _SAFE_IN_URL = _SAFE + '%?#[]'
@@ -95,6 +95,11 @@ def anchor(key: str) -> str:
     """The id of an item of the bibliography: `ref-` and the key, in which each character that an id
     can't have is written by its number. Different keys have different ids."""
     return 'ref-' + _OUTSIDE_ID.sub(lambda match: f'__{ord(match.group()):x}_', key)
+
+
+def is_unformatted(node: Node) -> bool:
+    """Whether a text says nothing of itself but that it is upright and of the usual weight."""
+    return len(node) == 3 and node.get('font_style') == 'normal' == node.get('font_weight')
 
 
 def formats(node: Node) -> List[str]:

@@ -23,7 +23,11 @@ from .errors import GamhilonError
 
 __all__ = ['CitationTextRefused', 'TextCitation', 'find_citations', 'parse_citations']
 
-_KEY = re.compile(r'[\w*](?:\w|[:.#$%&+?<>~/-](?=\w)|[:/](?=/))*')
+_A_KEY = r'[\w*](?:\w|[:.#$%&+?<>~/-](?=\w)|[:/](?=/))*'
+_KEY = re.compile(_A_KEY)
+# (a cite alone in brackets, with nothing that is read otherwise than as text around its key)
+_USUAL = re.compile(rf'\[((?:[^\W_]+[,.]? )*)(-?)@({_A_KEY})'
+                    r'([, ][^\\`<{$!\[\]^*"\'@_;\u201c\u2018~\n]*)?\]')
 
 
 class CitationTextRefused(GamhilonError, ValueError):
@@ -223,6 +227,10 @@ class CitationReader(InlineReader):
 
     def in_brackets(self, at: int, end: int) -> Optional[TextCitation]:
         """A citation in brackets that begins at a place."""
+        if self.is_all_text and not self.labels:
+            usual = _USUAL.match(self.text, at, end)
+            if usual is not None and not self.text.startswith(('(', '[', '{'), usual.end()):
+                return self._usual(usual)
         closing = self.closing_bracket(at, end)
         if closing is None or self.end_of_target(closing + 1, end) is not None \
                 or self._is_referred(at, closing) or self.end_of_opaque(at, end):
@@ -231,6 +239,12 @@ class CitationReader(InlineReader):
         if fault is not None or not cites:
             return None
         return TextCitation(tuple(cites), False, at, closing + 1)
+
+    def _usual(self, found: 're.Match[str]') -> TextCitation:
+        """A citation as most are, which is read in one step."""
+        prefix, minus, key, suffix = found.groups('')
+        cite = self._cite(_Key(key, bool(minus), found.end(3)), prefix, suffix)
+        return TextCitation((cite,), False, found.start(), found.end())
 
     def in_text(self, at: int, end: int) -> Optional[TextCitation]:
         """A citation with the author in the text that begins at a place."""

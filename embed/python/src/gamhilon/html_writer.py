@@ -7,7 +7,8 @@ from functools import lru_cache
 from typing import List, Optional, Sequence, Union
 
 from . import _addresses
-from ._writing import Escape, Piece, anchor, formats, pieces, safe_url, single_spaced
+from ._writing import (Escape, Piece, anchor, formats, is_unformatted, pieces, safe_url,
+                       single_spaced)
 from .answer import Bibliography, Citation, Item, Node, Tree, tree_of
 
 __all__ = ['bibliography_to_html', 'style_sheet', 'to_html']
@@ -44,11 +45,19 @@ def bibliography_to_html(bibliography: Optional[Bibliography], markup: Escape = 
     indents, columns and spacing is there for `style_sheet`."""
     if bibliography is None:
         return ''
+    return list_to_html(bibliography, [item_to_html(item, markup) for item in bibliography.items])
+
+
+def item_to_html(item: Item, markup: Escape = html.escape) -> str:
+    """The HTML of an item of a bibliography, in the list."""
+    return f'<div id="{anchor(item.key)}" class="csl-entry">{_item(item, markup)}</div>\n'
+
+
+def list_to_html(bibliography: Bibliography, items: Sequence[str]) -> str:
+    """The HTML of a bibliography of whose items this is the HTML."""
     classes = ['references', 'csl-bib-body', *layout_classes(bibliography)]
-    entries = [f'<div id="{anchor(item.key)}" class="csl-entry">{_item(item, markup)}</div>\n'
-               for item in bibliography.items]
     return (f'<div id="refs" class="{" ".join(classes)}" style="{spacing(bibliography)}">\n'
-            f'{"".join(entries)}</div>\n')
+            f'{"".join(items)}</div>\n')
 
 
 def style_sheet() -> str:
@@ -107,13 +116,15 @@ def _target(link: str) -> str:
 
 
 @lru_cache(maxsize=8192)
-def _escaped(text: str) -> str:
+def escaped(text: str) -> str:
     """The letters of a text, of which the same ones come again and again."""
     return html.escape(single_spaced(text))
 
 
 def _text(node: Node) -> str:
-    text = _escaped(node['text'])
+    text = escaped(node['text'])
+    if is_unformatted(node):
+        return text
     for name in reversed(formats(node)):
         opening, closing = _TAGS[name]
         text = opening + text + closing

@@ -579,7 +579,7 @@ class _Placer:
     def _place(self) -> Optional[Tuple[int, int]]:
         """Where the list stands: in place of the mark or of the `div` refs, or at the end of the
         section of its heading; None where there is neither."""
-        if self.site.mark is not None:
+        if self.site.mark is not None and self.site.mark in self.page.text:
             line = re.compile(rf'^[ \t]*{re.escape(self.site.mark)}[ \t]*$', re.MULTILINE)
             for found in line.finditer(self.page.text):
                 if any(paragraph.start <= found.end() and found.start() <= paragraph.end

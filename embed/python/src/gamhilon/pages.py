@@ -31,23 +31,28 @@ _PAGE = """<!DOCTYPE html>
 
 
 def written(form: str, document: bytes, print_document: Callable[[bytes], str],
-            print_json: Callable[[bytes], str]) -> str:
-    """The answer to a document in a form: its citations, each a paragraph, and its bibliography."""
+            print_json: Callable[[bytes], str], links: bool = False) -> str:
+    """The answer to a document in a form: its citations, each a paragraph, and its bibliography, to
+    whose items cites lead where `links` holds."""
     if form == 'text':
         return print_document(document)
     text = print_json(document)
     if form == 'json':
         return text + '\n'
-    return _WRITERS[form](answer_of(text), _keys(json.loads(document)))
+    return _WRITERS[form](answer_of(text), _keys(json.loads(document), links))
 
 
-def citations_in(form: str, answer: Answer) -> str:
-    """The citations of an answer in a form, each on a line; as JSON the whole answer."""
+def citations_in(form: str, answer: Answer, keys: List[List[str]]) -> str:
+    """The citations of an answer in a form, each on a line, whose cites lead to the items of these
+    keys; as JSON the whole answer."""
     if form == 'json':
         return _json(answer)
+    if form == 'text':
+        return ''.join(f'{plain(citation)}\n' for citation in answer.citations)
     writers: Dict[str, Callable[..., str]] = {
-        'text': plain, 'html': to_html, 'markdown': to_markdown, 'latex': to_latex}
-    return ''.join(f'{writers[form](citation)}\n' for citation in answer.citations)
+        'html': to_html, 'markdown': to_markdown, 'latex': to_latex}
+    return ''.join(f'{writers[form](citation, own)}\n'
+                   for citation, own in zip(answer.citations, keys))
 
 
 def bibliography_in(form: str, answer: Answer) -> str:
@@ -81,11 +86,11 @@ def standalone(content: str, title: str = 'Citations', head: str = '') -> str:
                         content=content)
 
 
-def _keys(document: Dict[str, Any]) -> List[List[str]]:
-    """The keys that each request cites, where the bibliography lists them so that cites can link
-    there."""
+def _keys(document: Dict[str, Any], links: bool) -> List[List[str]]:
+    """The keys that each request cites, where links are asked for and the bibliography lists them,
+    so that cites can lead there."""
     has_list = 'bibliography' in document['styles'][document['bibliography']['style']]
-    return [[item['entry'] for item in request['items']] if has_list else []
+    return [[item['entry'] for item in request['items']] if links and has_list else []
             for request in document['requests']]
 
 

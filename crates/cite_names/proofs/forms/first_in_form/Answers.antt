@@ -1,7 +1,7 @@
 use Rattle.std.proofs.Common.{◌≡◌, ℕ, ◌+◌, ◌-◌, ◌≤◌, [], ◌∷◌, ◌++◌, List, replicate, arith, ap, ◌∙◌, append_assoc}
 use Rattle.std.proofs.lemmas.List.{replicate_more}
-use Rattle.csl_values.specs.declared.names.DisambiguatedNameForm.{DisambiguatedNameForm}
-use Rattle.csl_values.specs.declared.names.DisambiguatedNameForm.TheVariants.{Count}
+use Rattle.value_sources.specs.declared.names.DisambiguatedNameForm.{DisambiguatedNameForm}
+use Rattle.value_sources.specs.declared.names.DisambiguatedNameForm.TheVariants.{Count}
 use Rattle.cite_names.proofs.forms.first_in_form.Goals as goal
 
 one-more : (form : DisambiguatedNameForm) (first i : ℕ) → first ≤ i → (replicate first form ++ replicate (i - first) Count) ++ (Count ∷ []) ≡ replicate first form ++ replicate (i + 1 - first) Count

@@ -1,5 +1,5 @@
 use Rattle.std.proofs.Common.{◌≡◌, ◌++◌, ◌-◌, ◌≤◌, max, replicate}
-use Rattle.csl_values.specs.declared.names.DisambiguatedNameForm.TheVariants.{Count}
+use Rattle.value_sources.specs.declared.names.DisambiguatedNameForm.TheVariants.{Count}
 use Rattle.cite_names.proofs.forms.first_in_form.Given as goal
 
 abbrev pub invariant-loop : goal.invariant-loop

@@ -1,7 +1,7 @@
 use Rattle.std.proofs.Common.{arith}
 use Rattle.std.proofs.lemmas.List.Sums.{suffix_len_is}
 use Rattle.cite_names.specs.NameForms.{only_counts}
-use Rattle.csl_values.specs.declared.names.DisambiguatedNameForm.TheVariants.{Count}
+use Rattle.value_sources.specs.declared.names.DisambiguatedNameForm.TheVariants.{Count}
 use Rattle.cite_names.proofs.forms.written_names.Goals as goal
 
 pub returns : goal.returns

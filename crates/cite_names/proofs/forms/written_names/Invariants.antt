@@ -1,6 +1,6 @@
 use Rattle.std.proofs.Common.{◌≡◌, ℕ, ◌-◌, ◌<◌, ◌≤◌, get_or, true, false}
 use Rattle.cite_names.specs.NameForms.{only_counts}
-use Rattle.csl_values.specs.declared.names.DisambiguatedNameForm.TheVariants.{Count}
+use Rattle.value_sources.specs.declared.names.DisambiguatedNameForm.TheVariants.{Count}
 use Rattle.cite_names.proofs.forms.written_names.Given as goal
 
 abbrev pub invariant-loop-place : goal.invariant-loop-place

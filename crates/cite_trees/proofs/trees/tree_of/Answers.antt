@@ -1,5 +1,5 @@
 use Rattle.std.proofs.Common.{[], ◌∷◌, ◌++◌, ap, sym, ◌∙◌, arith}
-use Rattle.csl_trees.specs.Tree.{plain}
+use Rattle.value_trees.specs.Tree.{plain}
 use Rattle.cite_trees.specs.Plain.{texts}
 use Rattle.cite_trees.proofs.Written.{all_closed, texts-append}
 use Rattle.cite_trees.proofs.trees.tree_of.Goals as goal

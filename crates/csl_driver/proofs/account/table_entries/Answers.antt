@@ -1,4 +1,4 @@
-use Rattle.csl_entries.specs.TableView.{table_view}
+use Rattle.driver_entries.specs.TableView.{table_view}
 use Rattle.csl_driver.proofs.ByEntries.{one-taken}
 use Rattle.csl_driver.proofs.account.table_entries.Goals as goal
 

@@ -1,5 +1,5 @@
 use Rattle.std.proofs.Common.{◌≡◌, map, take}
-use Rattle.csl_entries.specs.TableView.{table_view}
+use Rattle.driver_entries.specs.TableView.{table_view}
 use Rattle.csl_driver.proofs.account.table_entries.Given as goal
 
 abbrev pub invariant-loop-place : goal.invariant-loop-place

@@ -1,5 +1,5 @@
 use Rattle.std.proofs.Common.{◌≡◌, map}
-use Rattle.csl_round_laws.specs.Rounds.{told_by}
+use Rattle.rounds_runs.specs.Rounds.{told_by}
 use Rattle.csl_driver.proofs.account.told_states.Given as goal
 
 abbrev pub invariant-loop-state : goal.invariant-loop-state

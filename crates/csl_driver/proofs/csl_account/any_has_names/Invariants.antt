@@ -1,6 +1,6 @@
 use Rattle.std.proofs.Common.{◌≡◌, drop}
 use Rattle.std.specs.List.{list_any}
-use Rattle.csl_told_laws.specs.TellingLaws.{has_names}
+use Rattle.mentions_table_laws.specs.TellingLaws.{has_names}
 use Rattle.csl_driver.proofs.csl_account.any_has_names.Given as goal
 
 abbrev pub invariant-loop-state : goal.invariant-loop-state

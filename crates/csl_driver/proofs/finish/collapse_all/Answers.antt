@@ -1,7 +1,7 @@
 use Rattle.std.proofs.Common.{◌<◌, ◌≤◌, ap, arith, length, sym, ◌∙◌}
 use Rattle.std.proofs.Math.ListN.{length-map}
-use Rattle.csl_collapse.specs.Collapsed.{collapsed_finally}
-use Rattle.csl_passes.specs.RendersView.{render_view, renders_view}
+use Rattle.rounds_grouping.specs.Collapsed.{collapsed_finally}
+use Rattle.driver_passes.specs.RendersView.{render_view, renders_view}
 use Rattle.csl_driver.proofs.Halves.{changed-all, changed-more}
 use Rattle.csl_driver.proofs.finish.collapse_all.Goals as goal
 

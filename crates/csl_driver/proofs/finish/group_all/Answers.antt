@@ -1,7 +1,7 @@
 use Rattle.std.proofs.Common.{◌<◌, ◌≤◌, ap, arith, length, sym, ◌∙◌}
 use Rattle.std.proofs.Math.ListN.{length-map}
-use Rattle.csl_passes.specs.RendersView.{render_view, renders_view}
-use Rattle.csl_grouping.specs.Blocks.{grouped}
+use Rattle.driver_passes.specs.RendersView.{render_view, renders_view}
+use Rattle.rounds_grouping.specs.Blocks.{grouped}
 use Rattle.csl_driver.proofs.Halves.{changed-all, changed-more}
 use Rattle.csl_driver.proofs.finish.group_all.Goals as goal
 

@@ -1,6 +1,6 @@
 use Rattle.std.proofs.Common.{◌≡◌, ◌++◌, drop, map, take}
-use Rattle.csl_passes.specs.RendersView.{renders_view}
-use Rattle.csl_grouping.specs.Blocks.{grouped}
+use Rattle.driver_passes.specs.RendersView.{renders_view}
+use Rattle.rounds_grouping.specs.Blocks.{grouped}
 use Rattle.csl_driver.proofs.finish.group_all.Given as goal
 
 abbrev pub invariant-loop-r : goal.invariant-loop-r

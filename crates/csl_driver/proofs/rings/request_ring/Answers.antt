@@ -1,8 +1,8 @@
 use Rattle.std.proofs.Common.{Some, subst}
 use Rattle.std.proofs.Math.ListN.{length-map}
-use Rattle.csl_style_values.specs.Ring.{HasNoRing, IsFirstRing}
-use Rattle.csl_lookup.specs.Lookup.{Source}
-use Rattle.csl_passes.specs.RequestView.{request_view, requests_view}
+use Rattle.value_styles.specs.Ring.{HasNoRing, IsFirstRing}
+use Rattle.driver_lookup.specs.Lookup.{Source}
+use Rattle.driver_passes.specs.RequestView.{request_view, requests_view}
 use Rattle.csl_driver.proofs.RingLemmas.{no_ring-more, first_ring, no_ring-all}
 use Rattle.csl_driver.proofs.rings.request_ring.Goals as goal
 

@@ -1,5 +1,5 @@
 use Rattle.std.proofs.Common.{take}
-use Rattle.csl_passes.specs.RequestView.{requests_view}
+use Rattle.driver_passes.specs.RequestView.{requests_view}
 use Rattle.csl_driver.specs.Rings.{NoRingIn}
 use Rattle.csl_driver.proofs.rings.request_ring.Given as goal
 

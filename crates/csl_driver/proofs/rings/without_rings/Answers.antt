@@ -1,6 +1,6 @@
 use Rattle.std.proofs.Common.{Some, subst}
-use Rattle.csl_style_values.specs.Ring.{HasNoRing, IsFirstRing}
-use Rattle.csl_lookup.specs.Lookup.{Source}
+use Rattle.value_styles.specs.Ring.{HasNoRing, IsFirstRing}
+use Rattle.driver_lookup.specs.Lookup.{Source}
 use Rattle.csl_driver.proofs.rings.without_rings.Goals as goal
 
 pub returns-in-Some-2-clause-refused : goal.returns-in-Some-2-clause-refused

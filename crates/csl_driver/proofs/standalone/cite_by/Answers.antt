@@ -1,7 +1,7 @@
 use Rattle.std.proofs.Common.{None, ap, ◌∙◌}
 use Rattle.std.proofs.lemmas.Result.{IfOk-weaker}
-use Rattle.csl_assembly.specs.LastTree.{tree_by_purpose}
-use Rattle.csl_lookup.specs.PropertiesView.{properties_view}
+use Rattle.driver_assembly.specs.LastTree.{tree_by_purpose}
+use Rattle.driver_lookup.specs.PropertiesView.{properties_view}
 use Rattle.csl_writing.specs.LayoutWriting.{layout_writing}
 use Rattle.csl_driver.proofs.standalone.cite_by.Goals as goal
 

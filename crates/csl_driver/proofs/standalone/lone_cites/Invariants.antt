@@ -1,8 +1,8 @@
 use Rattle.csl_writing.specs.LayoutWriting.{layout_writing}
 use Rattle.std.proofs.Common.{◌≡◌, ◌++◌, drop, map}
-use Rattle.csl_assembly.specs.ShownView.{shown_views}
-use Rattle.csl_passes.specs.Request.{source_of}
-use Rattle.csl_passes.specs.RequestView.{cites_view, request_view}
+use Rattle.driver_assembly.specs.ShownView.{shown_views}
+use Rattle.driver_passes.specs.Request.{source_of}
+use Rattle.driver_passes.specs.RequestView.{cites_view, request_view}
 use Rattle.csl_driver.specs.StandaloneCitation.{behind, lone_delimiter, lone_trees}
 use Rattle.csl_driver.proofs.standalone.lone_cites.Given as goal
 

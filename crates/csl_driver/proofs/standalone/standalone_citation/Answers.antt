@@ -1,6 +1,6 @@
 use Rattle.std.proofs.Common.{Some, refl, subst}
-use Rattle.csl_style_values.specs.Ring.{HasNoRing, IsFirstRing}
-use Rattle.csl_lookup.specs.Lookup.{Source}
+use Rattle.value_styles.specs.Ring.{HasNoRing, IsFirstRing}
+use Rattle.driver_lookup.specs.Lookup.{Source}
 use Rattle.csl_driver.proofs.standalone.standalone_citation.Goals as goal
 
 pub invariant_of-acyclic : goal.invariant_of-acyclic

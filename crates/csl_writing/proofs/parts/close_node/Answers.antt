@@ -1,6 +1,6 @@
 -- The innermost node is closed.
 use Rattle.std.proofs.Common.{length}
-use Rattle.csl_lookup.specs.SourceView.{lookup_view}
+use Rattle.driver_lookup.specs.SourceView.{lookup_view}
 use Rattle.csl_writing.proofs.NestedNodes.{closed_done, closed_nested}
 use Rattle.csl_writing.proofs.parts.close_node.Goals as goal
 

@@ -1,8 +1,8 @@
 -- One more piece.
 use Rattle.std.proofs.Common.{false, ap, sym, ◌∙◌, ◌∷◌, []}
 use Rattle.std.proofs.lemmas.List.{map-append}
-use Rattle.csl_lookup.specs.SourceView.{lookup_view}
-use Rattle.csl_picking.specs.PiecesView.{token_of, tokens_of}
+use Rattle.driver_lookup.specs.SourceView.{lookup_view}
+use Rattle.layout_picking.specs.PiecesView.{token_of, tokens_of}
 use Rattle.csl_writing.specs.PieceRun.{after_token, after_tokens}
 use Rattle.csl_writing.specs.OpenNodes.{run_of}
 use Rattle.csl_writing.proofs.PieceSteps.{after_tokens_more}

@@ -1,8 +1,8 @@
 -- What is written so far is what the tokens so far give.
 use Rattle.std.proofs.Common.{◌≡◌, false, length}
-use Rattle.csl_lookup.specs.SourceView.{lookup_view}
-use Rattle.csl_picking.specs.PiecesView.{tokens_of}
-use Rattle.csl_context.specs.WritingState.{state}
+use Rattle.driver_lookup.specs.SourceView.{lookup_view}
+use Rattle.layout_picking.specs.PiecesView.{tokens_of}
+use Rattle.layout_context.specs.WritingState.{state}
 use Rattle.csl_writing.specs.PieceRun.{after_tokens}
 use Rattle.csl_writing.specs.OpenNodes.{IsNested, run_of}
 use Rattle.csl_writing.proofs.parts.write_all.Given as goal

@@ -1,8 +1,8 @@
 -- The pieces write the parts.
 use Rattle.std.proofs.Common.{false, ap, ◌∙◌, []}
-use Rattle.csl_lookup.specs.SourceView.{lookup_view}
-use Rattle.csl_picking.specs.PiecesView.{tokens_of}
-use Rattle.csl_context.specs.WritingState.{state}
+use Rattle.driver_lookup.specs.SourceView.{lookup_view}
+use Rattle.layout_picking.specs.PiecesView.{tokens_of}
+use Rattle.layout_context.specs.WritingState.{state}
 use Rattle.csl_writing.specs.PieceRun.{Run, after_tokens}
 use Rattle.csl_writing.specs.OpenNodes.{run_of}
 use Rattle.csl_writing.proofs.PieceSteps.{run, parts_run}

@@ -1,5 +1,5 @@
-use Rattle.csl_lookup.specs.SourceView.{lookup_view}
-use Rattle.csl_context.specs.WritingState.{state}
+use Rattle.driver_lookup.specs.SourceView.{lookup_view}
+use Rattle.layout_context.specs.WritingState.{state}
 use Rattle.csl_writing.proofs.PlanSteps.{section_carried}
 use Rattle.csl_writing.proofs.purposes.write_section.Goals as goal
 

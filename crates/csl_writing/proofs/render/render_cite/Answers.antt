@@ -1,5 +1,5 @@
 use Rattle.csl_writing.specs.SubjectView.{subject_view}
-use Rattle.csl_context.specs.WritingState.{state}
+use Rattle.layout_context.specs.WritingState.{state}
 use Rattle.csl_writing.proofs.CiteSteps.{cite_rendered}
 use Rattle.csl_writing.proofs.render.render_cite.Goals as goal
 

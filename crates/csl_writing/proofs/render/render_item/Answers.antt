@@ -1,14 +1,14 @@
 use Rattle.std.proofs.Common.{◌∙◌, ap, arith, length}
 use Rattle.std.specs.Prelude.{true}
-use Rattle.csl_style_values.specs.ElementView.{options_view}
-use Rattle.csl_style_values.specs.StyleView.{bibliography_view}
-use Rattle.csl_picking.specs.declared.notes.Form.{Form}
+use Rattle.value_styles.specs.ElementView.{options_view}
+use Rattle.value_styles.specs.StyleView.{bibliography_view}
+use Rattle.layout_picking.specs.declared.notes.Form.{Form}
 use Rattle.csl_writing.specs.Sections.{item_section}
-use Rattle.csl_lookup.specs.SourceView.{lookup_view}
-use Rattle.csl_context.specs.Steps.{term_text}
+use Rattle.driver_lookup.specs.SourceView.{lookup_view}
+use Rattle.layout_context.specs.Steps.{term_text}
 use Rattle.csl_writing.specs.SubjectView.{subject_view}
-use Rattle.csl_context.specs.Wording.{suffixed}
-use Rattle.csl_context.specs.WritingState.{state, prefixed}
+use Rattle.layout_context.specs.Wording.{suffixed}
+use Rattle.layout_context.specs.WritingState.{state, prefixed}
 use Rattle.csl_writing.proofs.ItemSteps.{item_flushes, item_rendered}
 use Rattle.csl_writing.proofs.render.render_item.Goals as goal
 

@@ -5,10 +5,10 @@ use Rattle.host_driver.proofs.AllNamed.{all-named, earliest}
 use Rattle.csl_driver.specs.JobView.{job_of}
 use Rattle.host_memo.specs.Keys.{task_key}
 use Rattle.host_memo.specs.Written.{found}
-use Rattle.host_table.specs.Table.{note_once}
+use Rattle.host_driver.specs.Table.{note_once}
 use Rattle.host_memo.specs.declared.key.TaskKey.{TaskKey}
-use Rattle.host_table.proofs.MissingTasks.{all-missing, all-there, clash, empty}
-use Rattle.csl_writers.specs.Writing.{WriterState, noted_all}
+use Rattle.host_driver.proofs.MissingTasks.{all-missing, all-there, clash, empty}
+use Rattle.driver_writers.specs.Writing.{WriterState, noted_all}
 use Rattle.host_driver.proofs.drive.drive_by.Goals as goal
 
 pub returns-then-is_empty-clause-driven : goal.returns-then-is_empty-clause-driven

@@ -1,7 +1,7 @@
 use Rattle.std.proofs.Common.{◌≡◌, ap, sym, ◌∙◌}
 use Rattle.std.specs.Prelude.{option_map, Some}
-use Rattle.csl_lookup.specs.PropertiesView.{locator_view}
-use Rattle.csl_lookup.proofs.Copies.{state_copied}
+use Rattle.driver_lookup.specs.PropertiesView.{locator_view}
+use Rattle.driver_lookup.proofs.Copies.{state_copied}
 use Rattle.host_memo.specs.Keys.{located}
 use Rattle.host_memo.proofs.key.standing_of.Goals.{in-Some+in_ok-located-in-Some, in-None}
 use Rattle.host_memo.proofs.key.standing_of.Goals as goal

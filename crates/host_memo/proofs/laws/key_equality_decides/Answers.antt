@@ -1,10 +1,10 @@
 use Rattle.std.proofs.Common.{◌≡◌, ap, sym, true≢false}
 use Rattle.std.specs.Cmp.{booleans_Decides, unsigned_Decides}
-use Rattle.csl_values.proofs.Told.{option_told}
-use Rattle.csl_values.specs.Finds.{both, and-true, decides, finds, pairs_find, texts_find}
-use Rattle.csl_values.specs.Tells.{TellsEqual}
-use Rattle.csl_lookup.specs.contracts.purpose.CitePurposePartialEq.TheImpl as purpose_eq
-use Rattle.csl_lookup.specs.contracts.state.CollapseVerdictPartialEq.TheImpl as verdict_eq
+use Rattle.value_sources.proofs.Told.{option_told}
+use Rattle.value_sources.specs.Finds.{both, and-true, decides, finds, pairs_find, texts_find}
+use Rattle.value_sources.specs.Tells.{TellsEqual}
+use Rattle.driver_lookup.specs.contracts.purpose.CitePurposePartialEq.TheImpl as purpose_eq
+use Rattle.driver_lookup.specs.contracts.state.CollapseVerdictPartialEq.TheImpl as verdict_eq
 use Rattle.host_memo.specs.contracts.key.StandingPartialEq.TheImpl as standing_eq
 use Rattle.host_memo.specs.contracts.key.TaskPartPartialEq.TheImpl as part_eq
 use Rattle.host_memo.specs.declared.key.TaskPart.TheVariants as parts

@@ -1,5 +1,5 @@
 use Rattle.std.proofs.Common.{◌∙◌, sym}
-use Rattle.csl_lookup.specs.Between.{between}
+use Rattle.driver_lookup.specs.Between.{between}
 use Rattle.test_callers.proofs.clients.hidden_between.Goals as goal
 
 pub returns : goal.returns

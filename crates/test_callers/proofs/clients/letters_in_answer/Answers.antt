@@ -3,7 +3,7 @@ use Rattle.std.specs.Prelude.{string_bytes}
 use Rattle.std.proofs.lemmas.Option.{IfSome_then}
 use Rattle.csl_driver.specs.JobView.{job_of}
 use Rattle.csl_writing.specs.LayoutWriting.{layout_writing}
-use Rattle.csl_round_laws.specs.declared.mode.RoundMode.{RoundMode}
+use Rattle.rounds_runs.specs.declared.mode.RoundMode.{RoundMode}
 use Rattle.test_callers.proofs.Together.{letters-differ}
 use Rattle.test_callers.proofs.clients.letters_in_answer.Goals as goal
 

@@ -1,8 +1,8 @@
 use Rattle.csl_writing.specs.LayoutWriting.{layout_writing}
 use Rattle.std.proofs.Common.{◌≡◌, List, ap, sym, ◌∙◌}
 use Rattle.std.specs.Prelude.{option_and_then, slice_get}
-use Rattle.csl_lookup.specs.States.{year_suffix}
-use Rattle.csl_lookup.specs.declared.state.DisambiguateState.{DisambiguateState}
+use Rattle.driver_lookup.specs.States.{year_suffix}
+use Rattle.driver_lookup.specs.declared.state.DisambiguateState.{DisambiguateState}
 use Rattle.test_callers.proofs.Together.{is-read, suffixes-differ}
 use Rattle.test_callers.proofs.clients.letters_of_two.Goals as goal
 

@@ -1,6 +1,6 @@
 use Rattle.std.proofs.Common.{◌≡◌, ◌+◌, ◌-◌, [], ◌∷◌, ◌++◌, ap, sym, ◌∙◌, arith}
 use Rattle.std.specs.List.{range_with_len}
-use Rattle.csl_entries.proofs.Numbers.{range-more}
+use Rattle.driver_entries.proofs.Numbers.{range-more}
 use Rattle.test_callers.proofs.clients.numbers_between.Goals as goal
 
 pub loop-number-init : goal.loop-number-init

@@ -1,5 +1,5 @@
 use Rattle.std.proofs.Common.{◌≡◌, ℕ, List, Option, None, Some, ap, sym, ◌∙◌}
-use Rattle.csl_told_laws.specs.SuffixLaws.{suffix_at}
+use Rattle.mentions_table_laws.specs.SuffixLaws.{suffix_at}
 use Rattle.test_callers.proofs.csl_clients.letters_of_alike.Goals as goal
 
 -- where there is a suffix, there is one and no other

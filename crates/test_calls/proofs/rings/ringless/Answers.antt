@@ -1,5 +1,5 @@
 use Rattle.std.proofs.Common.{subst, sym}
-use Rattle.csl_style_values.specs.Ring.{HasNoRing}
+use Rattle.value_styles.specs.Ring.{HasNoRing}
 use Rattle.test_calls.proofs.rings.ringless.Goals as goal
 
 pub returns-in-None : goal.returns-in-None

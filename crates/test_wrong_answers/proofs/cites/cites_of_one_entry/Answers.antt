@@ -3,7 +3,7 @@ use Rattle.test_wrong_answers.proofs.AllRight.{exactly, two-plain}
 use Rattle.test_wrong_answers.proofs.NotOwn.{first-twice}
 use Rattle.test_wrong_answers.specs.Cites.{two, each_its_own}
 use Rattle.test_wrong_answers.specs.Letters.{letters}
-use Rattle.csl_round_laws.specs.declared.mode.RoundMode.{RoundMode}
+use Rattle.rounds_runs.specs.declared.mode.RoundMode.{RoundMode}
 use Rattle.test_wrong_answers.proofs.cites.cites_of_one_entry.Goals as goal
 
 pub returns-clause-refuted : goal.returns-clause-refuted

@@ -3,7 +3,7 @@ use Rattle.test_wrong_answers.proofs.AllRight.{exactly, purpose-plain}
 use Rattle.test_wrong_answers.proofs.NotOwn.{collapsed-too}
 use Rattle.test_wrong_answers.specs.Cites.{with_a_purpose, one_by_one}
 use Rattle.test_wrong_answers.specs.Letters.{letters}
-use Rattle.csl_round_laws.specs.declared.mode.RoundMode.{RoundMode}
+use Rattle.rounds_runs.specs.declared.mode.RoundMode.{RoundMode}
 use Rattle.test_wrong_answers.proofs.cites.collapsed_in_spite_of_purpose.Goals as goal
 
 pub returns-clause-refuted : goal.returns-clause-refuted

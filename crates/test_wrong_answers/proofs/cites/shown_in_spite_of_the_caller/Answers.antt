@@ -3,7 +3,7 @@ use Rattle.test_wrong_answers.proofs.AllRight.{exactly, hidden-plain}
 use Rattle.test_wrong_answers.proofs.NotOwn.{shown-hidden}
 use Rattle.test_wrong_answers.specs.Cites.{hidden_one, nothing_shown}
 use Rattle.test_wrong_answers.specs.Letters.{letters}
-use Rattle.csl_round_laws.specs.declared.mode.RoundMode.{RoundMode}
+use Rattle.rounds_runs.specs.declared.mode.RoundMode.{RoundMode}
 use Rattle.test_wrong_answers.proofs.cites.shown_in_spite_of_the_caller.Goals as goal
 
 pub returns-clause-refuted : goal.returns-clause-refuted

@@ -1,10 +1,10 @@
 use Rattle.std.proofs.Common.{◌≡◌, ℕ, Bool, true, false, Option, None, Some, refl, ap, sym, true≢false}
 use Rattle.std.specs.Prelude.{is_some}
 use Rattle.std.proofs.lemmas.Option.{none-some, same_Some}
-use Rattle.csl_lookup.specs.declared.state.DisambiguateState.{DisambiguateState}
-use Rattle.csl_lookup.specs.declared.state.IbidState.{IbidState}
-use Rattle.csl_notes.specs.declared.notes.CiteNotes.{CiteNotes}
-use Rattle.csl_told_cites.specs.Arranging.{en_dash}
+use Rattle.driver_lookup.specs.declared.state.DisambiguateState.{DisambiguateState}
+use Rattle.driver_lookup.specs.declared.state.IbidState.{IbidState}
+use Rattle.mentions_notes.specs.declared.notes.CiteNotes.{CiteNotes}
+use Rattle.mentions_cites.specs.Arranging.{en_dash}
 use Rattle.test_wrong_answers.proofs.given.given_otherwise.Goals as goal
 
 abbrev chooses : DisambiguateState → Bool

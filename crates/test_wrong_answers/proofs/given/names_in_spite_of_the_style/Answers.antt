@@ -1,10 +1,10 @@
 use Rattle.std.proofs.Common.{refl, sym, true≢false, arith}
 use Rattle.std.proofs.lemmas.List.Elements.{All-head}
 use Rattle.std.specs.Prelude.{map}
-use Rattle.csl_mentions.specs.declared.state.MentionState.{MentionState}
-use Rattle.csl_tables.specs.Tables.{named}
-use Rattle.csl_tables.specs.declared.subject.Subject.{Subject}
-use Rattle.csl_values.specs.declared.names.DisambiguatedNameForm.{DisambiguatedNameForm}
+use Rattle.mentions_groups.specs.declared.state.MentionState.{MentionState}
+use Rattle.mentions_tables.specs.Tables.{named}
+use Rattle.mentions_tables.specs.declared.subject.Subject.{Subject}
+use Rattle.value_sources.specs.declared.names.DisambiguatedNameForm.{DisambiguatedNameForm}
 use Rattle.mentions_laws.specs.Adding.{AddsAsStylesSay}
 use Rattle.test_wrong_answers.specs.Given.{both_names, names, subject, subjects, write}
 use Rattle.test_wrong_answers.proofs.given.names_in_spite_of_the_style.Goals as goal

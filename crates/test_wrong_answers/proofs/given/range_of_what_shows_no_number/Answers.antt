@@ -1,6 +1,6 @@
 use Rattle.std.proofs.Common.{◌∷◌, [], None, Some, true, refl, true≢false}
 use Rattle.test_wrong_answers.specs.Given.{facts, none_repeats, positioned_cite, unnumbered, whole_way}
-use Rattle.csl_style_values.specs.declared.style.Collapse.{Collapse}
+use Rattle.value_styles.specs.declared.style.Collapse.{Collapse}
 use Rattle.test_wrong_answers.proofs.given.range_of_what_shows_no_number.Goals as goal
 
 pub returns-clause-refuted : goal.returns-clause-refuted

@@ -1,5 +1,5 @@
 use Rattle.std.proofs.Common.{[], ◌∷◌, arith}
-use Rattle.csl_round_laws.specs.declared.mode.RoundMode.{RoundMode}
+use Rattle.rounds_runs.specs.declared.mode.RoundMode.{RoundMode}
 use Rattle.test_wrong_answers.proofs.AllRight.{exactly, listed-plain}
 use Rattle.test_wrong_answers.proofs.ListedWrong.{doubled, dropped, replaced}
 use Rattle.test_wrong_answers.specs.Letters.{letters}

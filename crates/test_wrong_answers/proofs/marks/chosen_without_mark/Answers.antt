@@ -1,4 +1,4 @@
-use Rattle.csl_round_laws.specs.declared.mode.RoundMode.{RoundMode}
+use Rattle.rounds_runs.specs.declared.mode.RoundMode.{RoundMode}
 use Rattle.test_wrong_answers.proofs.Told.{two-groups-begun}
 use Rattle.test_wrong_answers.proofs.Unmarked.{chosen-of-none, one-chosen}
 use Rattle.test_wrong_answers.specs.Rounds.{in_two_groups}

@@ -1,5 +1,5 @@
 use Rattle.test_wrong_answers.specs.Silent.{writing}
-use Rattle.csl_round_laws.specs.declared.mode.RoundMode.{RoundMode}
+use Rattle.rounds_runs.specs.declared.mode.RoundMode.{RoundMode}
 use Rattle.test_wrong_answers.proofs.Told.{at-once, chosen-next, two-groups-begun}
 use Rattle.test_wrong_answers.specs.Rounds.{in_two_groups}
 use Rattle.test_wrong_answers.proofs.rounds.later_mark_overwrites.Goals as goal

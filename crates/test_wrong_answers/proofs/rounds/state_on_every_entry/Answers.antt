@@ -1,6 +1,6 @@
 use Rattle.std.proofs.Common.{◌-◌, length, subst}
-use Rattle.csl_round_laws.specs.RunLaws.{NothingLeft}
-use Rattle.csl_round_laws.specs.declared.mode.RoundMode.{RoundMode}
+use Rattle.rounds_runs.specs.RunLaws.{NothingLeft}
+use Rattle.rounds_runs.specs.declared.mode.RoundMode.{RoundMode}
 use Rattle.test_wrong_answers.proofs.Told.{none-marked, on-every, unlike-begun}
 use Rattle.test_wrong_answers.specs.Rounds.{unlike}
 use Rattle.test_wrong_answers.specs.Silent.{same_sample, writing}

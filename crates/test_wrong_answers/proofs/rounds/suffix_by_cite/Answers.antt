@@ -1,7 +1,7 @@
 use Rattle.test_wrong_answers.specs.Silent.{writing}
 use Rattle.test_wrong_answers.proofs.Told.{alike-begun, alike-next, by-cite}
 use Rattle.test_wrong_answers.specs.Rounds.{alike}
-use Rattle.csl_round_laws.specs.declared.mode.RoundMode.{RoundMode}
+use Rattle.rounds_runs.specs.declared.mode.RoundMode.{RoundMode}
 use Rattle.test_wrong_answers.proofs.rounds.suffix_by_cite.Goals as goal
 
 pub returns-clause-refuted : goal.returns-clause-refuted

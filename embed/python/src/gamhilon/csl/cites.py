@@ -1,6 +1,7 @@
 """Cites and citations, as a document has them."""
 from __future__ import annotations
 
+import itertools
 import json
 import operator
 import reprlib
@@ -26,12 +27,13 @@ LABELS = (
 """The kinds of locators of CSL 1.0.2."""
 
 _JSON = json.JSONEncoder(ensure_ascii=False)
+_quoted = _JSON.encode
 _KNOWN_LABELS = frozenset(LABELS)
 _OLDER_LABELS = {'sub verbo': 'sub-verbo'}
 _TEXTS = ('id', 'locator', 'label', 'prefix', 'suffix')
 _FLAGS = ('suppress-author', 'author-only', 'hidden')
 _KEYS = (*_TEXTS, *_FLAGS, 'note')
-_FIELDS = tuple((key, key.replace('-', '_')) for key in _KEYS)
+# (in the order of the fields of a cite)
 _CITATION_KEYS = ('schema', 'citationID', 'citationItems', 'properties')
 _PROPERTIES = ('noteIndex', 'unsorted')
 _NO_CITATION = 'no citation, which is a list of cites or an object with citationItems'
@@ -57,14 +59,25 @@ class Cite:
 
     def data(self) -> Dict[str, Any]:
         """The cite as JSON has it, without what doesn't apply."""
-        told: Dict[str, Any] = {}
-        for key, name in _FIELDS:
-            value = getattr(self, name)
-            if value is not None and value is not False and value != '':
-                told[key] = value
+        told: Dict[str, Any] = {key: value for key, value in zip(_KEYS, vars(self).values())
+                                if value is not None and value is not False and value != ''}
         if self.locator is None:
             told.pop('label', None)
         return told
+
+    @property
+    def json(self) -> str:
+        """The JSON of `data`."""
+        if self.author_only or self.hidden or self.note is not None or not self.id:
+            return _JSON.encode(self.data())
+        text = f'{{"id": {_quoted(self.id)}'
+        if self.locator:
+            text += f', "locator": {_quoted(self.locator)}, "label": {_quoted(self.label)}'
+        if self.prefix:
+            text += f', "prefix": {_quoted(self.prefix)}'
+        if self.suffix:
+            text += f', "suffix": {_quoted(self.suffix)}'
+        return text + (', "suppress-author": true}' if self.suppress_author else '}')
 
 
 _SETTLED = frozenset((str, locator, str, str, str, bool, bool, bool, note)
@@ -122,7 +135,15 @@ class Citation(CiteSequence):
     @cached_property
     def json(self) -> str:
         """The JSON of `data`."""
-        return _JSON.encode(self.data())
+        if self.note_index or self.unsorted:
+            return _JSON.encode(self.data())
+        return f'[{", ".join([cite.json for cite in self.cites])}]'
+
+    def keyed_json(self, key: str) -> str:
+        """The JSON of an object that has a key too."""
+        text = self.json
+        members = text[1:] if text[0] == '{' else f'"citationItems": {text}}}'
+        return f'{{"citationID": "{key}", {members}'
 
     @cached_property
     def ids(self) -> Tuple[str, ...]:
@@ -132,18 +153,37 @@ class Citation(CiteSequence):
     @cached_property
     def is_settled(self) -> bool:
         """Whether each of its cites is of its form, and says nothing that is left out."""
-        return all(isinstance(cite, Cite) and _is_settled(cite) for cite in self.cites)
+        return all(isinstance(cite, Cite) and is_settled(cite) for cite in self.cites)
 
 
 class CitationPart:
-    """Citations of a document that stay together, as those of a page: their JSON, with commas
-    between, and the keys of their cites. Each of them `is_settled`."""
+    """Citations of a document that stay together, as those of a page, and the ids of their cites.
+    Each of them `is_settled`."""
 
     def __init__(self, citations: Sequence[Citation]) -> None:
         self.citations = tuple(citations)
-        text = ', '.join([citation.json for citation in self.citations])
-        self.json = text.encode('utf-8', 'replace')
-        self.ids = frozenset([key for citation in self.citations for key in citation.ids])
+        self.ids = frozenset([cite.id for citation in self.citations for cite in citation.cites])
+
+    @cached_property
+    def json(self) -> bytes:
+        """The JSON of these citations, with commas between."""
+        return _bytes_of([citation.json for citation in self.citations])
+
+    @cached_property
+    def keyed_json(self) -> bytes:
+        """The same with a key for each citation, which no citation of another part has."""
+        number = next(_numbers)
+        return _bytes_of([citation.keyed_json(f'part{number}.{place}')
+                          for place, citation in enumerate(self.citations)])
+
+
+_numbers = itertools.count()
+# (of the parts that have keys)
+
+
+def _bytes_of(members: List[str]) -> bytes:
+    """The JSON of the members of a list, without its brackets."""
+    return ', '.join(members).encode('utf-8', 'replace')
 
 
 class CitationParts(Sequence[Citation]):
@@ -169,6 +209,12 @@ class CitationParts(Sequence[Citation]):
         """The JSON of the list of these citations."""
         return b'[' + b', '.join([part.json for part in self._parts if part.citations]) + b']'
 
+    def keyed_json(self) -> bytes:
+        """The same with a key for each citation."""
+        texts = [part.keyed_json for part in self._parts if part.citations]
+        return b'[' + b', '.join(texts) + b']'
+
+    @cached_property
     def ids(self) -> Set[str]:
         """The keys of all cites."""
         return set().union(*[part.ids for part in self._parts])
@@ -177,7 +223,7 @@ class CitationParts(Sequence[Citation]):
 def ids_of(citations: Sequence[Citation]) -> Set[str]:
     """The keys of all cites of citations."""
     if isinstance(citations, CitationParts):
-        return citations.ids()
+        return citations.ids
     return {key for citation in citations for key in citation.ids}
 
 
@@ -248,7 +294,7 @@ class CitationReader:
         return tuple([self._cite(number, index, cite) for index, cite in enumerate(values)])
 
     def _cite(self, number: int, index: int, value: Any) -> Cite:
-        if isinstance(value, Cite) and _is_settled(value):
+        if isinstance(value, Cite) and is_settled(value):
             return value
         told = value.data() if isinstance(value, Cite) else value
         if not isinstance(told, Mapping):
@@ -279,7 +325,7 @@ class CitationReader:
         self.warnings.append(Warned(place(number, index, field), fault, citation=number))
 
 
-def _is_settled(cite: Cite) -> bool:
+def is_settled(cite: Cite) -> bool:
     """Whether a cite is of its form, and says nothing that is left out."""
     if tuple(map(type, vars(cite).values())) not in _SETTLED or cite.id == '':
         return False

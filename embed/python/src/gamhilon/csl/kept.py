@@ -13,7 +13,7 @@ from ..answer import Answer, Bibliography, Item
 from ..answer import Citation as WrittenCitation
 from ..errors import LibraryMissing
 from ..texts import TextWarning
-from .cites import Citation
+from .cites import Citation, CitationParts
 from .entries import Entry, EntryTexts
 
 if TYPE_CHECKING:
@@ -102,8 +102,7 @@ class _Held:
 
     def _put(self, document: Document) -> None:
         """Puts the entries that are new or changed."""
-        new = [entry for entry in document.entries
-               if self._entries.get(str(entry['id'])) != entry]
+        new = [entry for entry in document.entries if not self._has(entry)]
         if not new:
             return
         self._session.edit('put_items', document.entries_json(new))
@@ -116,6 +115,10 @@ class _Held:
                 key = str(new[int(steps[1])]['id'])
                 rest = replace(warning, pointer='/'.join(['', *steps[2:]]))
                 self._entry_warnings.setdefault(key, []).append(rest)
+
+    def _has(self, entry: Entry) -> bool:
+        known = self._entries.get(str(entry['id']))
+        return known is entry or known == entry
 
     def _remove(self, document: Document) -> None:
         """Removes the entries that a draft cites, and that aren't there any more."""
@@ -159,13 +162,16 @@ class _Held:
 
 
 class _CitationKeys:
-    """Keys of citations by what they ask for, so that one that moves keeps its key."""
+    """Keys of citations by what they ask for, so that one that moves keeps its key. Those in parts
+    have keys of their own."""
 
     def __init__(self) -> None:
         self._numbers: Dict[str, int] = {}
 
     def json(self, citations: Sequence[Citation]) -> bytes:
         """The JSON of citations, with their keys."""
+        if isinstance(citations, CitationParts):
+            return citations.keyed_json()
         if len(self._numbers) > 4 * len(citations) + 1000:
             self._numbers.clear()
         counts: Dict[int, int] = {}
@@ -174,6 +180,5 @@ class _CitationKeys:
             text = citation.json
             number = self._numbers.setdefault(text, len(self._numbers))
             count = counts[number] = counts.get(number, 0) + 1
-            members = text[1:] if text[0] == '{' else f'"citationItems": {text}}}'
-            parts.append(f'{{"citationID": "{number}.{count}", {members}')
+            parts.append(citation.keyed_json(f'{number}.{count}'))
         return f'[{", ".join(parts)}]'.encode('utf-8', 'replace')

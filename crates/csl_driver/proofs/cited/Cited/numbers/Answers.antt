@@ -2,7 +2,7 @@ use Rattle.std.proofs.Common.{◌≡◌, ◌+◌, [], ◌∷◌, ◌++◌, ap, a
 use Rattle.std.specs.List.{range_with_len}
 use Rattle.std.proofs.lemmas.List.FromFn.{map-range_with_len_more}
 use Rattle.csl_driver.specs.Cited.{listed_number}
-use Rattle.csl_entries.specs.ListingView.{listing_view}
+use Rattle.driver_entries.specs.ListingView.{listing_view}
 use Rattle.csl_driver.proofs.cited.Cited.numbers.Goals as goal
 
 pub loop-place-preserved : goal.loop-place-preserved

@@ -1,6 +1,6 @@
 use Rattle.std.proofs.Common.{◌≡◌, map}
 use Rattle.std.specs.List.{range_with_len}
-use Rattle.csl_entries.specs.ListingView.{listing_view}
+use Rattle.driver_entries.specs.ListingView.{listing_view}
 use Rattle.csl_driver.specs.Cited.{listed_number}
 use Rattle.csl_driver.proofs.cited.Cited.numbers.Given as goal
 

@@ -1,14 +1,14 @@
 use Rattle.std.proofs.Common.{◌≡◌, ap, map, rules, subst, sym, ◌∙◌}
 use Rattle.std.specs.Borrow.{Bor}
 use Rattle.std.specs.Prelude.{Some}
-use Rattle.csl_arranging.specs.Arranged.{arranged_cites}
-use Rattle.csl_arranging.specs.Requests.{requests_view as all_arranged_view}
-use Rattle.csl_lookup.specs.PropertiesView.{locator_view}
-use Rattle.csl_lookup.specs.contracts.locator.SpecificLocatorPartialEq.TheImpl as locator_eq
-use Rattle.csl_lookup.specs.declared.locator.SpecificLocator.{SpecificLocator}
-use Rattle.csl_passes.specs.Positions.{same_locators}
-use Rattle.csl_passes.specs.RendersView.{renders_view}
-use Rattle.csl_told_cites.specs.Arranging.{arranged_finally}
+use Rattle.mentions_arranging.specs.Arranged.{arranged_cites}
+use Rattle.mentions_arranging.specs.Requests.{requests_view as all_arranged_view}
+use Rattle.driver_lookup.specs.PropertiesView.{locator_view}
+use Rattle.driver_lookup.specs.contracts.locator.SpecificLocatorPartialEq.TheImpl as locator_eq
+use Rattle.driver_lookup.specs.declared.locator.SpecificLocator.{SpecificLocator}
+use Rattle.driver_passes.specs.Positions.{same_locators}
+use Rattle.driver_passes.specs.RendersView.{renders_view}
+use Rattle.mentions_cites.specs.Arranging.{arranged_finally}
 use Rattle.csl_driver.specs.AreCitesOf.{AreCitesOf}
 use Rattle.csl_driver.specs.DraftView.{job_in, table_in}
 use Rattle.csl_driver.proofs.CslArranged.{arranged-lent}

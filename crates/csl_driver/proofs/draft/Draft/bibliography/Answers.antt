@@ -1,16 +1,16 @@
 use Rattle.std.proofs.Common.{Some, ap, sym, ◌∙◌}
 use Rattle.std.specs.List.{filter_map}
 use Rattle.std.specs.Prelude.{option_map}
-use Rattle.csl_assembly.specs.BibliographyItems.{bibliography_of, bibliography_tasks, cites_at}
-use Rattle.csl_style_values.specs.StyleView.{bibliography_view}
+use Rattle.driver_assembly.specs.BibliographyItems.{bibliography_of, bibliography_tasks, cites_at}
+use Rattle.value_styles.specs.StyleView.{bibliography_view}
 use Rattle.csl_driver.specs.Answer.{entries_listed}
 use Rattle.csl_driver.specs.DraftView.{job_in}
 use Rattle.csl_driver.specs.WriterTasks.{where_wanted}
-use Rattle.csl_passes.specs.RendersView.{renders_view}
-use Rattle.csl_passes.specs.Request.{wanted_source}
-use Rattle.csl_positions.specs.FinalProperties.{first_item}
-use Rattle.csl_writers.specs.Desk.{after, desk}
-use Rattle.csl_writers.specs.Writing.{writing_of}
+use Rattle.driver_passes.specs.RendersView.{renders_view}
+use Rattle.driver_passes.specs.Request.{wanted_source}
+use Rattle.driver_positions.specs.FinalProperties.{first_item}
+use Rattle.driver_writers.specs.Desk.{after, desk}
+use Rattle.driver_writers.specs.Writing.{writing_of}
 use Rattle.csl_driver.proofs.draft.Draft.bibliography.Goals as goal
 
 pub returns-in_ok-made-in-Some-clause-bibliography : goal.returns-in_ok-made-in-Some-clause-bibliography

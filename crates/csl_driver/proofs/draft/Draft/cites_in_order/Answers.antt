@@ -1,11 +1,11 @@
 use Rattle.std.proofs.Common.{ap, map, ◌∙◌}
 use Rattle.std.specs.Borrow.{Bor}
-use Rattle.csl_arranging.specs.Requests.{requests_view as all_arranged_view}
-use Rattle.csl_lookup.specs.PropertiesView.{locator_view}
-use Rattle.csl_lookup.specs.declared.locator.SpecificLocator.{SpecificLocator}
-use Rattle.csl_passes.specs.RendersView.{renders_view}
-use Rattle.csl_told_cites.specs.Mentions.{first_with_names, kept_last}
-use Rattle.csl_writers.specs.Writing.{writing_of}
+use Rattle.mentions_arranging.specs.Requests.{requests_view as all_arranged_view}
+use Rattle.driver_lookup.specs.PropertiesView.{locator_view}
+use Rattle.driver_lookup.specs.declared.locator.SpecificLocator.{SpecificLocator}
+use Rattle.driver_passes.specs.RendersView.{renders_view}
+use Rattle.mentions_cites.specs.Mentions.{first_with_names, kept_last}
+use Rattle.driver_writers.specs.Writing.{writing_of}
 use Rattle.csl_driver.specs.CslParts.{AreToldApart}
 use Rattle.csl_driver.specs.DraftView.{job_in, table_in}
 use Rattle.csl_driver.proofs.CslArranged.{before-lent, before-stand}

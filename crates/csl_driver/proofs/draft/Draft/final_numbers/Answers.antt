@@ -2,10 +2,10 @@ use Rattle.std.proofs.Common.{sym, ap, length, ◌∙◌}
 use Rattle.std.proofs.lemmas.Result.{IfOk-weaker}
 use Rattle.csl_driver.specs.Answer.{used_order}
 use Rattle.csl_driver.specs.DraftView.{job_in, table_in}
-use Rattle.csl_entries.specs.Entries.{number}
-use Rattle.csl_passes.specs.RendersView.{renders_view}
-use Rattle.csl_passes.specs.RequestView.{order_view}
-use Rattle.csl_positions.specs.FirstProperties.{numbered_by}
+use Rattle.driver_entries.specs.Entries.{number}
+use Rattle.driver_passes.specs.RendersView.{renders_view}
+use Rattle.driver_passes.specs.RequestView.{order_view}
+use Rattle.driver_positions.specs.FirstProperties.{numbered_by}
 use Rattle.csl_driver.proofs.Listings.{known-listed, numbers-are, numbers-fit, numbers-long, table-once}
 use Rattle.csl_driver.proofs.Numbering.{by-cites, by-order}
 use Rattle.csl_driver.proofs.draft.Draft.final_numbers.Goals as goal

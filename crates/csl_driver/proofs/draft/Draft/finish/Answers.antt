@@ -1,9 +1,9 @@
 use Rattle.std.proofs.Common.{◌≡◌, ap, map, subst, sym, ◌∙◌}
 use Rattle.std.specs.List.{filter_map}
 use Rattle.std.specs.Prelude.{option_map}
-use Rattle.csl_assembly.specs.BibliographyItems.{bibliography_of, bibliography_tasks}
-use Rattle.csl_assembly.specs.declared.rendered.Rendered.{Rendered}
-use Rattle.csl_collapse.specs.Collapsed.{collapsed_finally}
+use Rattle.driver_assembly.specs.BibliographyItems.{bibliography_of, bibliography_tasks}
+use Rattle.driver_assembly.specs.declared.rendered.Rendered.{Rendered}
+use Rattle.rounds_grouping.specs.Collapsed.{collapsed_finally}
 use Rattle.csl_driver.specs.Answer.{citations_of, entries_listed, final_number, in_the_end, numbered_finally, used_order, rendered_first}
 use Rattle.csl_driver.specs.DraftView.{job_in, table_in}
 use Rattle.csl_driver.specs.Promised.{IsAnswer}
@@ -15,21 +15,21 @@ use Rattle.csl_driver.proofs.Standing.{begun-of-table, drawn-requests, ordered-s
 use Rattle.csl_driver.proofs.Steps.{all-steps, rounds-same, same-told, same-written}
 use Rattle.csl_driver.proofs.TaskCounts.{task-count}
 use Rattle.csl_driver.proofs.Whole.{whole}
-use Rattle.csl_entries.specs.Entries.{number}
-use Rattle.csl_grouping.specs.Blocks.{grouped}
-use Rattle.csl_passes.specs.RendersView.{renders_view}
-use Rattle.csl_passes.specs.Request.{wanted_source}
-use Rattle.csl_positions.specs.FinalProperties.{first_item, with_final_properties}
-use Rattle.csl_positions.specs.FirstProperties.{first_properties, numbered_by}
-use Rattle.csl_round_laws.proofs.Begun.{first-begun}
-use Rattle.csl_round_laws.specs.FirstRenders.{AreBegun}
-use Rattle.csl_round_laws.specs.Rounds.{told_by}
-use Rattle.csl_round_laws.specs.Tables.{last_states, round_tasks}
-use Rattle.csl_rounds.specs.AfterRounds.{AreAfterRounds}
-use Rattle.csl_writers.proofs.Counting.{counted_times-all}
-use Rattle.csl_writers.specs.Counted.{counted_times}
-use Rattle.csl_writers.specs.Desk.{after, desk}
-use Rattle.csl_writers.specs.Writing.{asked_for, writing_of}
+use Rattle.driver_entries.specs.Entries.{number}
+use Rattle.rounds_grouping.specs.Blocks.{grouped}
+use Rattle.driver_passes.specs.RendersView.{renders_view}
+use Rattle.driver_passes.specs.Request.{wanted_source}
+use Rattle.driver_positions.specs.FinalProperties.{first_item, with_final_properties}
+use Rattle.driver_positions.specs.FirstProperties.{first_properties, numbered_by}
+use Rattle.rounds_runs.proofs.Begun.{first-begun}
+use Rattle.rounds_runs.specs.FirstRenders.{AreBegun}
+use Rattle.rounds_runs.specs.Rounds.{told_by}
+use Rattle.rounds_runs.specs.Tables.{last_states, round_tasks}
+use Rattle.rounds_rendering.specs.AfterRounds.{AreAfterRounds}
+use Rattle.driver_writers.proofs.Counting.{counted_times-all}
+use Rattle.driver_writers.specs.Counted.{counted_times}
+use Rattle.driver_writers.specs.Desk.{after, desk}
+use Rattle.driver_writers.specs.Writing.{asked_for, writing_of}
 use Rattle.csl_driver.proofs.draft.Draft.finish.Goals as goal
 
 pub disambiguate-requires-clause-cites : goal.disambiguate-requires-clause-cites

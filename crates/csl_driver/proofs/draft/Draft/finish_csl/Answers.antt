@@ -1,11 +1,11 @@
 use Rattle.std.proofs.Common.{◌≡◌, true, false, ap, subst, sym, ◌∙◌}
 use Rattle.std.specs.Prelude.{option_map}
-use Rattle.csl_arranging.specs.Requests.{requests_view as all_arranged_view}
-use Rattle.csl_assembly.specs.ByMeans.{bibliography_by_means, tasks_by_means}
-use Rattle.csl_assembly.specs.declared.rendered.Rendered.{Rendered}
+use Rattle.mentions_arranging.specs.Requests.{requests_view as all_arranged_view}
+use Rattle.driver_assembly.specs.ByMeans.{bibliography_by_means, tasks_by_means}
+use Rattle.driver_assembly.specs.declared.rendered.Rendered.{Rendered}
 use Rattle.csl_driver.specs.AreCitesOf.{AreCitesOf}
 use Rattle.csl_driver.specs.CslAccount.{every_second}
-use Rattle.csl_told_laws.specs.TellingLaws.{rounds_of}
+use Rattle.mentions_table_laws.specs.TellingLaws.{rounds_of}
 use Rattle.csl_driver.specs.CslAnswer.{cites_arranged, item_means, listed, listed_cites, numbers_by, told_citations}
 use Rattle.csl_driver.specs.CslParts.{all_located}
 use Rattle.csl_driver.specs.CslPromised.{IsExactlyCsl}
@@ -15,13 +15,13 @@ use Rattle.csl_driver.specs.WriterTasks.{last_tasks, where_wanted}
 use Rattle.csl_driver.proofs.CslCost.{csl-count}
 use Rattle.csl_driver.proofs.CslCounts.{arranged-size}
 use Rattle.csl_driver.proofs.CslSteps.{arranged-told, same-behind, same-firsts, three-steps, whole-csl}
-use Rattle.csl_passes.specs.RendersView.{renders_view}
-use Rattle.csl_passes.specs.Request.{wanted_source}
-use Rattle.csl_writers.proofs.Counting.{counted_times-all}
-use Rattle.csl_writers.proofs.TasksDone.{writes-same}
-use Rattle.csl_writers.specs.Counted.{counted_times}
-use Rattle.csl_writers.specs.Desk.{after, desk}
-use Rattle.csl_writers.specs.Writing.{asked_for, writing_of}
+use Rattle.driver_passes.specs.RendersView.{renders_view}
+use Rattle.driver_passes.specs.Request.{wanted_source}
+use Rattle.driver_writers.proofs.Counting.{counted_times-all}
+use Rattle.driver_writers.proofs.TasksDone.{writes-same}
+use Rattle.driver_writers.specs.Counted.{counted_times}
+use Rattle.driver_writers.specs.Desk.{after, desk}
+use Rattle.driver_writers.specs.Writing.{asked_for, writing_of}
 use Rattle.csl_driver.proofs.draft.Draft.finish_csl.Goals as goal
 
 pub arrange-requires : goal.arrange-requires

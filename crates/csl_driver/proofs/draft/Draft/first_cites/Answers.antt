@@ -1,14 +1,14 @@
 use Rattle.std.proofs.Common.{◌≡◌, ◌+◌, ◌≤◌, take, All, arith, Some, None, ap, get_or, length, subst, sym, ◌∙◌, ◌<◌}
 use Rattle.std.proofs.lemmas.List.{take_all}
 use Rattle.std.specs.List.{filter_map}
-use Rattle.csl_assembly.specs.BibliographyItems.{cites_at}
+use Rattle.driver_assembly.specs.BibliographyItems.{cites_at}
 use Rattle.csl_driver.specs.Answer.{used_order}
-use Rattle.csl_entries.specs.Entries.{bibliography_order}
-use Rattle.csl_entries.specs.Listed.{Listed}
+use Rattle.driver_entries.specs.Entries.{bibliography_order}
+use Rattle.driver_entries.specs.Listed.{Listed}
 use Rattle.csl_driver.specs.DraftView.{job_in, table_in}
-use Rattle.csl_passes.specs.Request.{cited}
-use Rattle.csl_passes.specs.RendersView.{renders_view}
-use Rattle.csl_name_marks.proofs.Marking.{same-default}
+use Rattle.driver_passes.specs.Request.{cited}
+use Rattle.driver_passes.specs.RendersView.{renders_view}
+use Rattle.rounds_names.proofs.Marking.{same-default}
 use Rattle.csl_driver.proofs.FirstCites.{first-cites, first_of, found-more, found-same, within-firsts}
 use Rattle.csl_driver.proofs.Listings.{known-listed, known-within, table-once}
 use Rattle.csl_driver.proofs.draft.Draft.first_cites.Goals.{in-Some+in_ok-push, in_default}

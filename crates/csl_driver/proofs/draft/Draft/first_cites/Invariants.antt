@@ -1,8 +1,8 @@
 use Rattle.std.proofs.Common.{◌≡◌, take}
 use Rattle.std.specs.List.{filter_map}
-use Rattle.csl_assembly.specs.BibliographyItems.{cites_at}
-use Rattle.csl_entries.specs.TableView.{table_view}
-use Rattle.csl_passes.specs.RendersView.{renders_view}
+use Rattle.driver_assembly.specs.BibliographyItems.{cites_at}
+use Rattle.driver_entries.specs.TableView.{table_view}
+use Rattle.driver_passes.specs.RendersView.{renders_view}
 use Rattle.csl_driver.proofs.FirstCites.{first_of}
 use Rattle.csl_driver.proofs.draft.Draft.first_cites.Given as goal
 

@@ -3,11 +3,11 @@ use Rattle.std.specs.Prelude.{find, slice_get}
 use Rattle.std.specs.List.{filter_map}
 use Rattle.std.proofs.lemmas.List.{map-append, take_all}
 use Rattle.std.proofs.lemmas.List.Elements.{All-get_or}
-use Rattle.csl_entries.specs.Listed.{Listed}
-use Rattle.csl_entries.specs.Table.{Table}
+use Rattle.driver_entries.specs.Listed.{Listed}
+use Rattle.driver_entries.specs.Table.{Table}
 use Rattle.csl_driver.specs.CslAnswer.{listed}
 use Rattle.csl_driver.specs.DraftView.{job_in, table_in}
-use Rattle.csl_name_marks.proofs.Marking.{filter_map-more, same-default}
+use Rattle.rounds_names.proofs.Marking.{filter_map-more, same-default}
 use Rattle.csl_driver.proofs.CslAccounting.{entries-found}
 use Rattle.csl_driver.proofs.Listings.{known-listed, known-within}
 use Rattle.csl_driver.proofs.draft.Draft.listed_entries.Goals as goal

@@ -1,7 +1,7 @@
 use Rattle.std.proofs.Common.{◌≡◌, map, take}
 use Rattle.std.specs.Prelude.{slice_get}
 use Rattle.std.specs.List.{filter_map}
-use Rattle.csl_entries.specs.TableView.{table_view}
+use Rattle.driver_entries.specs.TableView.{table_view}
 use Rattle.csl_driver.proofs.draft.Draft.listed_entries.Given as goal
 
 abbrev pub invariant-loop-place : goal.invariant-loop-place

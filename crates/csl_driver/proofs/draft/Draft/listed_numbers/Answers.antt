@@ -1,11 +1,11 @@
 use Rattle.std.proofs.Common.{ℕ, ◌≤◌, [], ◌∷◌, ◌++◌, ap, arith, get_or, length, map, sym, take, ◌∙◌}
 use Rattle.std.specs.Prelude.{slice_index_or}
 use Rattle.std.proofs.lemmas.List.{get_or_read, map-append, take_all, take_more}
-use Rattle.csl_entries.specs.Entries.{bibliography_order, number}
-use Rattle.csl_entries.specs.Listed.{Listed}
-use Rattle.csl_entries.specs.ListingView.{listing_view}
-use Rattle.csl_passes.specs.RendersView.{renders_view}
-use Rattle.csl_passes.specs.Request.{cited}
+use Rattle.driver_entries.specs.Entries.{bibliography_order, number}
+use Rattle.driver_entries.specs.Listed.{Listed}
+use Rattle.driver_entries.specs.ListingView.{listing_view}
+use Rattle.driver_passes.specs.RendersView.{renders_view}
+use Rattle.driver_passes.specs.Request.{cited}
 use Rattle.csl_driver.specs.Answer.{numbered_finally, used_order}
 use Rattle.csl_driver.specs.DraftView.{job_in, table_in}
 use Rattle.csl_driver.proofs.CslAccounting.{number-there, numbers-listed}

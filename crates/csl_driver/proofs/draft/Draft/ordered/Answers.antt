@@ -1,19 +1,19 @@
 use Rattle.std.proofs.Common.{◌≡◌, ap, map, refl, rules, ◌∙◌}
 use Rattle.std.specs.Borrow.{Bor}
 use Rattle.std.specs.Prelude.{Some}
-use Rattle.csl_arranging.specs.Order.{final_request}
-use Rattle.csl_arranging.specs.Repeating.{cites_repeated, firsts_repeated}
-use Rattle.csl_arranging.specs.Requests.{requests_view as all_arranged_view}
-use Rattle.csl_lookup.specs.PropertiesView.{locator_view}
-use Rattle.csl_lookup.specs.contracts.locator.SpecificLocatorPartialEq.TheImpl as locator_eq
-use Rattle.csl_lookup.specs.declared.locator.SpecificLocator.{SpecificLocator}
-use Rattle.csl_passes.specs.Positions.{same_locators}
-use Rattle.csl_tables.specs.Steps.{all_changed}
-use Rattle.csl_told_cites.specs.Repeats.{cites_with_shown, with_first_key}
-use Rattle.csl_writers.specs.Desk.{after, desk}
-use Rattle.csl_writers.specs.Tasks.{cite_task}
-use Rattle.csl_writers.specs.Writing.{writing_of}
-use Rattle.csl_writers.proofs.TasksDone.{writes-same}
+use Rattle.mentions_arranging.specs.Order.{final_request}
+use Rattle.mentions_arranging.specs.Repeating.{cites_repeated, firsts_repeated}
+use Rattle.mentions_arranging.specs.Requests.{requests_view as all_arranged_view}
+use Rattle.driver_lookup.specs.PropertiesView.{locator_view}
+use Rattle.driver_lookup.specs.contracts.locator.SpecificLocatorPartialEq.TheImpl as locator_eq
+use Rattle.driver_lookup.specs.declared.locator.SpecificLocator.{SpecificLocator}
+use Rattle.driver_passes.specs.Positions.{same_locators}
+use Rattle.mentions_tables.specs.Steps.{all_changed}
+use Rattle.mentions_cites.specs.Repeats.{cites_with_shown, with_first_key}
+use Rattle.driver_writers.specs.Desk.{after, desk}
+use Rattle.driver_writers.specs.Tasks.{cite_task}
+use Rattle.driver_writers.specs.Writing.{writing_of}
+use Rattle.driver_writers.proofs.TasksDone.{writes-same}
 use Rattle.csl_driver.specs.CslAnswer.{ordered, plain_by}
 use Rattle.csl_driver.specs.CslParts.{AreToldApart, all_located}
 use Rattle.csl_driver.specs.CslTasks.{repeat_cite_tasks}

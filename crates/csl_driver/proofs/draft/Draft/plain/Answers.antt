@@ -1,7 +1,7 @@
 use Rattle.std.proofs.Common.{◌≡◌, ap, map, ◌∙◌}
 use Rattle.std.proofs.lemmas.Result.{IfOk-weaker}
-use Rattle.csl_arranging.specs.Requests.{requests_view as all_arranged_view}
-use Rattle.csl_told_cites.specs.Requests.{located_request, plain_requests}
+use Rattle.mentions_arranging.specs.Requests.{requests_view as all_arranged_view}
+use Rattle.mentions_cites.specs.Requests.{located_request, plain_requests}
 use Rattle.csl_driver.specs.CslAnswer.{listed, plain_by}
 use Rattle.csl_driver.specs.DraftView.{job_in}
 use Rattle.csl_driver.proofs.draft.Draft.plain.Goals as goal

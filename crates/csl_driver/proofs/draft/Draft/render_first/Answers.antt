@@ -1,11 +1,11 @@
 use Rattle.std.proofs.Common.{ap, arith, length, map, subst, sym, ◌∙◌}
-use Rattle.csl_entries.specs.Entries.{distinct}
+use Rattle.driver_entries.specs.Entries.{distinct}
 use Rattle.csl_driver.specs.DraftView.{job_in, table_in}
-use Rattle.csl_passes.specs.Request.{cited}
-use Rattle.csl_positions.specs.FirstProperties.{first_properties, numbered_by}
-use Rattle.csl_round_laws.specs.FirstRenders.{HasShapeOf, first_renders, first_tasks}
-use Rattle.csl_writers.specs.Desk.{after, desk}
-use Rattle.csl_writers.specs.Writing.{writing_of}
+use Rattle.driver_passes.specs.Request.{cited}
+use Rattle.driver_positions.specs.FirstProperties.{first_properties, numbered_by}
+use Rattle.rounds_runs.specs.FirstRenders.{HasShapeOf, first_renders, first_tasks}
+use Rattle.driver_writers.specs.Desk.{after, desk}
+use Rattle.driver_writers.specs.Writing.{writing_of}
 use Rattle.csl_driver.proofs.FirstPlaced.{first-shape}
 use Rattle.csl_driver.proofs.Listings.{known-listed, numbers-are, numbers-fit, numbers-long}
 use Rattle.csl_driver.proofs.draft.Draft.render_first.Goals as goal

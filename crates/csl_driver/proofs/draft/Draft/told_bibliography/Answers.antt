@@ -1,14 +1,14 @@
 use Rattle.std.proofs.Common.{Some, ap, length, sym, ◌∙◌}
 use Rattle.std.specs.Prelude.{option_map}
-use Rattle.csl_assembly.specs.ByMeans.{bibliography_by_means, cites_with_means, tasks_by_means}
-use Rattle.csl_style_values.specs.StyleView.{bibliography_view}
+use Rattle.driver_assembly.specs.ByMeans.{bibliography_by_means, cites_with_means, tasks_by_means}
+use Rattle.value_styles.specs.StyleView.{bibliography_view}
 use Rattle.csl_driver.specs.CslAnswer.{item_means, listed, listed_cites}
 use Rattle.csl_driver.specs.DraftView.{job_in}
 use Rattle.csl_driver.specs.WriterTasks.{where_wanted}
-use Rattle.csl_passes.specs.RendersView.{renders_view}
-use Rattle.csl_passes.specs.Request.{wanted_source}
-use Rattle.csl_writers.specs.Desk.{after, desk}
-use Rattle.csl_writers.specs.Writing.{writing_of}
+use Rattle.driver_passes.specs.RendersView.{renders_view}
+use Rattle.driver_passes.specs.Request.{wanted_source}
+use Rattle.driver_writers.specs.Desk.{after, desk}
+use Rattle.driver_writers.specs.Writing.{writing_of}
 use Rattle.csl_driver.proofs.draft.Draft.told_bibliography.Goals as goal
 
 pub bibliography_by_means-requires : goal.bibliography_by_means-requires

@@ -1,17 +1,17 @@
 use Rattle.std.proofs.Common.{◌++◌, ◌∷◌, [], ap, map, refl, sym, take, ◌∙◌}
 use Rattle.std.proofs.lemmas.List.{take_all}
-use Rattle.csl_rounds.proofs.Pairs.{at_view, past_view, within_view}
-use Rattle.csl_style_values.specs.Ring.{HasNoRing}
-use Rattle.csl_assembly.specs.CitationTree.{citation_tasks}
-use Rattle.csl_assembly.specs.WithoutEmpty.{citation_without_empty}
+use Rattle.rounds_rendering.proofs.Pairs.{at_view, past_view, within_view}
+use Rattle.value_styles.specs.Ring.{HasNoRing}
+use Rattle.driver_assembly.specs.CitationTree.{citation_tasks}
+use Rattle.driver_assembly.specs.WithoutEmpty.{citation_without_empty}
 use Rattle.csl_driver.specs.CslAnswer.{told_citation, told_citations}
 use Rattle.csl_driver.specs.DraftView.{job_in}
 use Rattle.csl_driver.specs.WriterTasks.{last_tasks}
-use Rattle.csl_passes.specs.RendersView.{item_view, render_view, renders_view}
-use Rattle.csl_positions.proofs.FinalPlaces.{all-at}
-use Rattle.csl_writers.specs.Desk.{after, desk}
-use Rattle.csl_writers.specs.Writing.{writing_of}
-use Rattle.csl_writers.proofs.TasksDone.{after-then, writes-same}
+use Rattle.driver_passes.specs.RendersView.{item_view, render_view, renders_view}
+use Rattle.driver_positions.proofs.FinalPlaces.{all-at}
+use Rattle.driver_writers.specs.Desk.{after, desk}
+use Rattle.driver_writers.specs.Writing.{writing_of}
+use Rattle.driver_writers.proofs.TasksDone.{after-then, writes-same}
 use Rattle.csl_driver.proofs.ByIndex.{all-more, each-more}
 use Rattle.csl_driver.proofs.Standing.{of-requests}
 use Rattle.csl_driver.proofs.draft.Draft.told_citations.Goals as goal

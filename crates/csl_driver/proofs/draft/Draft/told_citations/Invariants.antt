@@ -1,8 +1,8 @@
 use Rattle.csl_driver.specs.CslAnswer.{told_citations}
 use Rattle.csl_driver.specs.WriterTasks.{last_tasks}
-use Rattle.csl_passes.specs.RendersView.{renders_view}
-use Rattle.csl_writers.specs.Desk.{after, desk}
-use Rattle.csl_writers.specs.Writing.{writing_of}
+use Rattle.driver_passes.specs.RendersView.{renders_view}
+use Rattle.driver_writers.specs.Desk.{after, desk}
+use Rattle.driver_writers.specs.Writing.{writing_of}
 use Rattle.std.proofs.Common.{◌≡◌, take}
 use Rattle.csl_driver.proofs.draft.Draft.told_citations.Given as goal
 

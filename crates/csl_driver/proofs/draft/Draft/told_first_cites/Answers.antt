@@ -1,11 +1,11 @@
 use Rattle.std.proofs.Common.{◌≤◌, ◌<◌, ◌∷◌, [], ◌++◌, All, None, Some, ap, arith, get_or, length, subst, sym, ◌∙◌}
 use Rattle.std.proofs.lemmas.List.{take_all}
-use Rattle.csl_entries.specs.Listed.{Listed}
-use Rattle.csl_assembly.specs.ByMeans.{cites_with_means}
+use Rattle.driver_entries.specs.Listed.{Listed}
+use Rattle.driver_assembly.specs.ByMeans.{cites_with_means}
 use Rattle.csl_driver.specs.CslAnswer.{item_means, listed}
 use Rattle.csl_driver.specs.DraftView.{job_in, table_in}
-use Rattle.csl_passes.specs.RendersView.{renders_view}
-use Rattle.csl_name_marks.proofs.Marking.{same-default}
+use Rattle.driver_passes.specs.RendersView.{renders_view}
+use Rattle.rounds_names.proofs.Marking.{same-default}
 use Rattle.csl_driver.proofs.CslFirstCites.{as-long-more, firsts_with_means, listed-by-places, means-more, means-same}
 use Rattle.csl_driver.proofs.FirstCites.{within-firsts}
 use Rattle.csl_driver.proofs.Listings.{known-listed, known-within, table-once}

@@ -1,7 +1,7 @@
 use Rattle.std.proofs.Common.{◌≡◌, length, take}
-use Rattle.csl_assembly.specs.ByMeans.{cites_with_means}
-use Rattle.csl_entries.specs.TableView.{table_view}
-use Rattle.csl_passes.specs.RendersView.{renders_view}
+use Rattle.driver_assembly.specs.ByMeans.{cites_with_means}
+use Rattle.driver_entries.specs.TableView.{table_view}
+use Rattle.driver_passes.specs.RendersView.{renders_view}
 use Rattle.csl_driver.specs.CslAnswer.{item_means}
 use Rattle.csl_driver.proofs.CslFirstCites.{firsts_with_means}
 use Rattle.csl_driver.proofs.draft.Draft.told_first_cites.Given as goal

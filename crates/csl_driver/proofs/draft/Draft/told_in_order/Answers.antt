@@ -1,13 +1,13 @@
 use Rattle.std.proofs.Common.{◌≡◌, ap, arith, length, map, subst, sym, ◌∙◌}
-use Rattle.csl_arranging.specs.Requests.{requests_view as all_arranged_view}
-use Rattle.csl_lookup.specs.PropertiesView.{properties_view}
-use Rattle.csl_passes.specs.RendersView.{renders_view}
-use Rattle.csl_requested_mentions.specs.HomeView.{homes_view}
-use Rattle.csl_requested_mentions.specs.Mentions.{all_properties, mentions_at}
-use Rattle.csl_requested_mentions.specs.Plain.{plain}
-use Rattle.csl_writers.specs.Desk.{after, desk}
-use Rattle.csl_writers.specs.Writing.{writing_of}
-use Rattle.csl_writers.proofs.TasksDone.{after-then, writes-same}
+use Rattle.mentions_arranging.specs.Requests.{requests_view as all_arranged_view}
+use Rattle.driver_lookup.specs.PropertiesView.{properties_view}
+use Rattle.driver_passes.specs.RendersView.{renders_view}
+use Rattle.mentions_cited.specs.HomeView.{homes_view}
+use Rattle.mentions_cited.specs.Mentions.{all_properties, mentions_at}
+use Rattle.mentions_cited.specs.Plain.{plain}
+use Rattle.driver_writers.specs.Desk.{after, desk}
+use Rattle.driver_writers.specs.Writing.{writing_of}
+use Rattle.driver_writers.proofs.TasksDone.{after-then, writes-same}
 use Rattle.csl_driver.specs.CslAnswer.{cites_in_order, listed, ordered}
 use Rattle.csl_driver.specs.CslParts.{AreToldApart, all_located}
 use Rattle.csl_driver.specs.CslTasks.{mention_tasks, order_tasks, repeat_cite_tasks}

@@ -3,7 +3,7 @@ use Rattle.csl_driver.specs.CslPromised.{IsExactlyCsl}
 use Rattle.csl_driver.specs.CslTasks.{csl_tasks}
 use Rattle.csl_driver.specs.Promised.{CanBeAnswered}
 use Rattle.csl_driver.proofs.CslSteps.{same-job}
-use Rattle.csl_writers.specs.Writing.{asked_for, writing_of}
+use Rattle.driver_writers.specs.Writing.{asked_for, writing_of}
 use Rattle.csl_driver.proofs.driver.BibliographyDriver.answer_csl_with.Goals as goal
 
 pub returns-in_err-cited-clause-finished : goal.returns-in_err-cited-clause-finished

@@ -4,7 +4,7 @@ use Rattle.csl_driver.specs.Answer.{rendered}
 use Rattle.csl_driver.specs.JobView.{job_of}
 use Rattle.csl_driver.specs.Promised.{IsAnswer}
 use Rattle.csl_driver.proofs.Promises.{answered-too}
-use Rattle.csl_round_laws.specs.declared.mode.RoundMode.{RoundMode}
+use Rattle.rounds_runs.specs.declared.mode.RoundMode.{RoundMode}
 use Rattle.csl_driver.proofs.driver.BibliographyDriver.finish.Goals as goal
 
 pub returns : goal.returns

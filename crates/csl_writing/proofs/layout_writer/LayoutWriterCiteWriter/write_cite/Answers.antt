@@ -1,6 +1,6 @@
 use Rattle.std.proofs.Common.{subst, sym}
-use Rattle.csl_style_values.specs.Ring.{HasNoRing}
-use Rattle.csl_lookup.specs.Lookup.{Source}
+use Rattle.value_styles.specs.Ring.{HasNoRing}
+use Rattle.driver_lookup.specs.Lookup.{Source}
 use Rattle.csl_writing.proofs.layout_writer.LayoutWriterCiteWriter.write_cite.Goals as goal
 
 pub cite_of-requires : goal.cite_of-requires

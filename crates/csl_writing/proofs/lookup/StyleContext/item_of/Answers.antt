@@ -1,10 +1,10 @@
 use Rattle.std.proofs.Common.{◌≡◌, subst}
 use Rattle.std.specs.Prelude.{IfOk}
-use Rattle.csl_style_values.specs.StyleView.{bibliography_view}
+use Rattle.value_styles.specs.StyleView.{bibliography_view}
 use Rattle.csl_writing.specs.CiteText.{rendered_item}
-use Rattle.csl_picking.specs.InputView.{cite_facts}
-use Rattle.csl_lookup.specs.PropertiesView.{properties_view}
-use Rattle.csl_lookup.specs.SourceView.{source_view}
+use Rattle.layout_picking.specs.InputView.{cite_facts}
+use Rattle.driver_lookup.specs.PropertiesView.{properties_view}
+use Rattle.driver_lookup.specs.SourceView.{source_view}
 use Rattle.csl_writing.proofs.CiteSteps.{subject_known}
 use Rattle.csl_writing.proofs.lookup.StyleContext.item_of.Goals as goal
 

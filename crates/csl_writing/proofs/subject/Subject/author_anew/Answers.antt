@@ -1,4 +1,4 @@
-use Rattle.csl_picking.specs.Notes.{first_notes}
+use Rattle.layout_picking.specs.Notes.{first_notes}
 use Rattle.csl_writing.specs.Sections as sections
 use Rattle.csl_writing.specs.SubjectView.{subject_view}
 use Rattle.csl_writing.proofs.SectionSteps.{first_shown, other_shown}

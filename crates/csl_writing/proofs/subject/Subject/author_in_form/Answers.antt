@@ -1,6 +1,6 @@
 use Rattle.std.proofs.Common.{subst}
 use Rattle.std.specs.Prelude.{IfOk}
-use Rattle.csl_picking.specs.Notes.{first_notes}
+use Rattle.layout_picking.specs.Notes.{first_notes}
 use Rattle.csl_writing.specs.SectionView.{IsSection}
 use Rattle.csl_writing.specs.Sections as sections
 use Rattle.csl_writing.specs.SubjectView.{subject_view}

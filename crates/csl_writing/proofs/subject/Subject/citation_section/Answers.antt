@@ -1,5 +1,5 @@
 use Rattle.std.proofs.Common.{ap}
-use Rattle.csl_style_values.specs.ElementView.{elements_view}
+use Rattle.value_styles.specs.ElementView.{elements_view}
 use Rattle.csl_writing.proofs.SectionSteps.{section_in}
 use Rattle.csl_writing.proofs.subject.Subject.citation_section.Goals as goal
 

@@ -1,8 +1,8 @@
-use Rattle.csl_picking.specs.Notes.{first_notes}
+use Rattle.layout_picking.specs.Notes.{first_notes}
 use Rattle.csl_writing.specs.Sections.{regular_section}
-use Rattle.csl_lookup.specs.SourceView.{lookup_view}
+use Rattle.driver_lookup.specs.SourceView.{lookup_view}
 use Rattle.csl_writing.specs.SubjectView.{subject_view}
-use Rattle.csl_context.specs.WritingState.{state}
+use Rattle.layout_context.specs.WritingState.{state}
 use Rattle.csl_writing.proofs.PlanSteps.{alone_carried}
 use Rattle.csl_writing.proofs.subject.Subject.write_regular.Goals as goal
 

@@ -1,5 +1,5 @@
 use Rattle.std.proofs.Common.{◌≡◌, Some, ap, sym, ◌∙◌}
-use Rattle.csl_lookup.proofs.Copies.{state_copied}
+use Rattle.driver_lookup.proofs.Copies.{state_copied}
 use Rattle.host_memo.proofs.key.StandingClone.clone.Goals.{in-Some+in_ok-clone-in-Some, in-None}
 use Rattle.host_memo.proofs.key.StandingClone.clone.Goals as goal
 

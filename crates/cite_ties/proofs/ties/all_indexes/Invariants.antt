@@ -1,6 +1,0 @@
-use Rattle.std.proofs.Common.{◌≡◌}
-use Rattle.std.specs.List.{range_with_len}
-use Rattle.cite_ties.proofs.ties.all_indexes.Given as goal
-
-abbrev pub invariant-loop-index : goal.invariant-loop-index
-invariant-loop-index l = l.all.items ≡ range_with_len 0 l.index

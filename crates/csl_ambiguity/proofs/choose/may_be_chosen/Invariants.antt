@@ -1,9 +1,0 @@
-use Rattle.std.proofs.Common.{◌≡◌, drop}
-use Rattle.csl_passes.specs.RendersView.{renders_view}
-use Rattle.csl_ambiguity.specs.ChooseMarks.{may_be_chosen}
-use Rattle.csl_ambiguity.specs.Members.{members}
-use Rattle.csl_ambiguity.proofs.choose.may_be_chosen.Given as goal
-
-abbrev pub invariant-loop-place : goal.invariant-loop-place
-invariant-loop-place g l =
-    may_be_chosen (members (renders_view l.cites) l.group) ≡ may_be_chosen (members (renders_view l.cites) (drop l.place-index l.group))

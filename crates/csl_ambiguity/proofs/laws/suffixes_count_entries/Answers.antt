@@ -1,5 +1,0 @@
-use Rattle.csl_ambiguity.proofs.GroupLaws.{count-entries}
-use Rattle.csl_ambiguity.proofs.laws.suffixes_count_entries.Goals as goal
-
-pub returns : goal.returns
-returns g c = count-entries g.T.PartialEq.eq g.met.T.Eq.laws

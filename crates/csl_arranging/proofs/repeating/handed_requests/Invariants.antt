@@ -1,7 +1,0 @@
-use Rattle.std.proofs.Common.{◌≡◌, map, take}
-use Rattle.csl_notes.specs.Requests.{requests_view}
-use Rattle.csl_arranging.proofs.Walking.{seen_handed}
-use Rattle.csl_arranging.proofs.repeating.handed_requests.Given as goal
-
-abbrev pub invariant-loop-request : goal.invariant-loop-request
-invariant-loop-request g l = requests_view l.found.items ≡ map seen_handed (take l.request-index l.requests)

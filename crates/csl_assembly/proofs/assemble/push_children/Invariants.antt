@@ -1,6 +1,0 @@
-use Rattle.std.proofs.Common.{◌≡◌, ◌++◌, map}
-use Rattle.csl_trees.specs.ChildView.{child_view}
-use Rattle.csl_assembly.proofs.assemble.push_children.Given as goal
-
-abbrev pub invariant-loop-child : goal.invariant-loop-child
-invariant-loop-child l = l.tree ≡ l.fn.tree ++ map child_view l.yielded

@@ -1,7 +1,0 @@
-use Rattle.std.proofs.Common.{◌≡◌, map}
-use Rattle.csl_substitution.specs.ItemView.{rendered_items_view}
-use Rattle.csl_assembly.specs.BibliographyItems.{with_first_field}
-use Rattle.csl_assembly.proofs.bibliography.with_first_fields.Given as goal
-
-abbrev pub invariant-loop-content : goal.invariant-loop-content
-invariant-loop-content l = l.finished.items ≡ map (with_first_field l.aligned) (rendered_items_view l.yielded)

@@ -1,4 +1,0 @@
-pub mod Stepping
-pub mod Beginning
-pub mod Writing
-pub mod Repeating

@@ -1,3 +1,0 @@
-pub mod AskedFor
-pub mod Cites
-pub mod WritingOn

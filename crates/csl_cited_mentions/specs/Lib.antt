@@ -1,4 +1,0 @@
-pub mod Kept
-pub mod ToldMeans
-pub mod Cited
-pub mod WritesOn

@@ -1,6 +1,0 @@
-pub mod ByPlaces
-pub mod RunLemmas
-pub mod StretchLemmas
-pub mod Tests
-pub mod Wholes
-pub mod ReadBack

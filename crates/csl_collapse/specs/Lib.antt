@@ -1,6 +1,0 @@
-pub mod Stretches
-pub mod NumberRuns
-pub mod YearStretches
-pub mod Collapsed
-pub mod Steps
-pub mod NumberLaws

@@ -1,9 +1,0 @@
-use Rattle.std.proofs.lemmas.Str.Pattern.{ends_text}
-use Rattle.csl_context.proofs.TextSteps.{split_at_ending}
-use Rattle.csl_context.proofs.text.ends_with.Goals as goal
-
-pub returns : goal.returns
-returns c = record {
-  value = ends_text c.ends_with.result c.args.ending.now c.args.text.now c.ends_with.ensures.cases;
-  cut = split_at_ending c.ends_with.result c.args.ending.now c.args.text.now c.ends_with.ensures.cases;
-}

@@ -1,7 +1,0 @@
--- What is joined, and what is left to join, is the whole.
-use Rattle.std.proofs.Common.{◌≡◌, ◌++◌, drop, string_bytes}
-use Rattle.csl_context.specs.Wording.{joined_values}
-use Rattle.csl_context.proofs.wording.joined_values.Given as goal
-
-abbrev pub invariant-loop-chunk : goal.invariant-loop-chunk
-invariant-loop-chunk l = string_bytes l.joined ++ joined_values (drop l.chunk-index l.chunk-items) ≡ joined_values l.chunk-items

@@ -1,8 +1,0 @@
-use Rattle.std.proofs.Common.{◌∙◌}
-use Rattle.csl_entries.proofs.Sets.{position-view}
-use Rattle.csl_entries.proofs.table.EntryTable.index_of.Goals as goal
-
-pub returns : goal.returns
-returns g c =
-    c.index_of.ensures
-    ∙ position-view (λ e. e.now) g.T.PartialEq.eq c.args.entry.now c.args.self.now.entries.keys

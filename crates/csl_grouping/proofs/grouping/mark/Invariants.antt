@@ -1,7 +1,0 @@
-use Rattle.std.proofs.Common.{◌≡◌, Some, take}
-use Rattle.csl_passes.specs.RendersView.{items_view}
-use Rattle.csl_grouping.specs.Steps.{all_marked}
-use Rattle.csl_grouping.proofs.grouping.mark.Given as goal
-
-abbrev pub invariant-loop-i : goal.invariant-loop-i
-invariant-loop-i g l = items_view l.items ≡ all_marked (Some l.delimiter) (take l.i l.placed) (items_view l.initial.items)

@@ -1,6 +1,0 @@
-use Rattle.csl_grouping.proofs.OrderLaws.{ordered, together}
-use Rattle.csl_grouping.proofs.Whole.{final-permuted}
-use Rattle.csl_grouping.proofs.laws.final_order_laws.Goals as goal
-
-pub returns : goal.returns
-returns g c = record { once = final-permuted; together = together; ordered = ordered }

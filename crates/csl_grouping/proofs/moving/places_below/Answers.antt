@@ -1,6 +1,0 @@
-use Rattle.std.proofs.Common.{◌∷◌, [], ◌++◌, ap, sym, ◌∙◌}
-use Rattle.csl_grouping.proofs.Swaps.{below-more}
-use Rattle.csl_grouping.proofs.moving.places_below.Goals as goal
-
-pub loop-k-preserved : goal.loop-k-preserved
-loop-k-preserved c = c.in_ok-push.ensures.items ∙ ap (λ xs. xs ++ c.loop-k.k ∷ []) c.loop-k.invariant ∙ sym (below-more c.loop-k.k)

@@ -1,2 +1,0 @@
-pub mod Nesting
-pub mod Limited

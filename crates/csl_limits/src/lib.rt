@@ -1,4 +1,0 @@
-//! Limits that a host sets to the styles of others.
-#![tactic(auto)]
-
-pub mod limits;

@@ -1,5 +1,0 @@
-use Rattle.csl_lookup.proofs.Letters.{suffixes_differ}
-use Rattle.csl_lookup.proofs.laws.suffixes_differ.Goals as goal
-
-pub returns : goal.returns
-returns c = suffixes_differ

@@ -1,8 +1,0 @@
-use Rattle.std.proofs.Common.{◌≡◌, drop, map, find}
-use Rattle.csl_style_values.specs.StyleView.{term_view}
-use Rattle.csl_styles.specs.Terms.{is_term}
-use Rattle.csl_lookup.proofs.lookup.term_in.Given as goal
-
-abbrev pub invariant-loop-term : goal.invariant-loop-term
-invariant-loop-term l =
-    find (is_term l.name l.form) (map term_view (drop l.term-index l.term-items)) ≡ find (is_term l.name l.form) (map term_view l.term-items)

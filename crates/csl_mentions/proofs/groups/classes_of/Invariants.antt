@@ -1,7 +1,0 @@
-use Rattle.std.proofs.Common.{take}
-use Rattle.std.specs.List.{enumerate_from}
-use Rattle.csl_mentions.specs.Classes.{AreClassesOf}
-use Rattle.csl_mentions.proofs.groups.classes_of.Given as goal
-
-abbrev pub invariant-loop-k : goal.invariant-loop-k
-invariant-loop-k l = AreClassesOf l.classes (take l.k (enumerate_from 0 l.mentions))

@@ -1,6 +1,0 @@
-use Rattle.std.proofs.Common.{◌≡◌, map, take}
-use Rattle.csl_mentions.specs.Suffixes.{entry_class, laters}
-use Rattle.csl_mentions.proofs.suffixes.entry_classes.Given as goal
-
-abbrev pub invariant-loop-mention : goal.invariant-loop-mention
-invariant-loop-mention l = l.entries.items ≡ map (entry_class l.mentions) (laters (take l.mention-index l.mentions))

@@ -1,6 +1,0 @@
-use Rattle.std.proofs.Common.{◌≡◌, map, take}
-use Rattle.csl_mentions.specs.Readings.{reading_of}
-use Rattle.csl_mentions.proofs.suffixes.readings_of.Given as goal
-
-abbrev pub invariant-loop-k : goal.invariant-loop-k
-invariant-loop-k l = l.readings.items ≡ map (reading_of l.mentions) (take l.k l.mentions)

@@ -1,7 +1,0 @@
-use Rattle.std.proofs.Common.{◌≡◌, map, take}
-use Rattle.std.specs.List.{zip}
-use Rattle.csl_mentions.specs.Written.{named_as}
-use Rattle.csl_mentions.proofs.written.names_in.Given as goal
-
-abbrev pub invariant-loop-k : goal.invariant-loop-k
-invariant-loop-k l = l.names.items ≡ map named_as (take l.k (zip l.persons l.forms))

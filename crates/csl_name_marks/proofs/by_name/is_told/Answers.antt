@@ -1,8 +1,0 @@
-use Rattle.std.proofs.Common.{sym}
-use Rattle.csl_name_marks.proofs.Holders.{told}
-use Rattle.csl_name_marks.proofs.by_name.is_told.Goals as goal
-
-pub returns-then-tells_without : goal.returns-then-tells_without
-returns-then-tells_without c = λ e.
-    told c.args.holders.now c.in-Some.first.now (sym c.in-Some.ensures.value) c.args.person.now c.args.place (c.tells_without.ensures c.if-tells_without.true)
-    (c.tells_elsewhere.ensures e)

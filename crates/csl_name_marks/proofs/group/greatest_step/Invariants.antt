@@ -1,7 +1,0 @@
-use Rattle.std.proofs.Common.{◌≡◌, drop, length, map, max}
-use Rattle.csl_name_marks.specs.NamedCites.{greatest}
-use Rattle.csl_name_marks.proofs.group.greatest_step.Given as goal
-
-abbrev pub invariant-loop-member : goal.invariant-loop-member
-invariant-loop-member l =
-    max l.greatest (greatest (map (λ x. length x.persons) (drop l.member-index l.group))) ≡ greatest (map (λ x. length x.persons) l.group)

@@ -1,7 +1,0 @@
-use Rattle.std.proofs.Common.{◌≡◌, ◌++◌, map, take}
-use Rattle.csl_trees.specs.ChildView.{child_view}
-use Rattle.csl_name_marks.specs.Persons.{persons}
-use Rattle.csl_name_marks.proofs.persons.+add.Given as goal
-
-abbrev pub invariant-add_tree-loop-child : goal.invariant-add_tree-loop-child
-invariant-add_tree-loop-child l = l.found.items ≡ l.fn.found.items ++ persons (map child_view (take l.child-index l.child-items))

@@ -1,5 +1,0 @@
-use Rattle.std.proofs.Common.{◌≡◌, ◌++◌, take}
-use Rattle.csl_name_marks.proofs.persons.add_persons.Given as goal
-
-abbrev pub invariant-loop-person : goal.invariant-loop-person
-invariant-loop-person l = l.found.items ≡ l.fn.found.items ++ take l.person-index l.persons

@@ -1,8 +1,0 @@
-use Rattle.std.proofs.Common.{◌≡◌, drop}
-use Rattle.std.specs.List.{list_any, zip}
-use Rattle.csl_name_marks.specs.Classes.{waits_for_step}
-use Rattle.csl_name_marks.proofs.steps.some_waits.Given as goal
-
-abbrev pub invariant-loop-k : goal.invariant-loop-k
-invariant-loop-k l =
-    list_any (λ p. waits_for_step l.rule p.0 p.1) (drop l.k (zip l.group l.steps)) ≡ list_any (λ p. waits_for_step l.rule p.0 p.1) (zip l.group l.steps)

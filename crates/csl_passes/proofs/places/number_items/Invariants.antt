@@ -1,7 +1,0 @@
-use Rattle.std.proofs.Common.{◌≡◌}
-use Rattle.csl_passes.specs.RequestView.{cites_view}
-use Rattle.csl_passes.proofs.Placed.{half_placed}
-use Rattle.csl_passes.proofs.places.number_items.Given as goal
-
-abbrev pub invariant-loop-k : goal.invariant-loop-k
-invariant-loop-k g l = cites_view l.items ≡ half_placed 0 l.k (cites_view l.initial.items)

@@ -1,8 +1,0 @@
--- Where a style's cites stand.
-use Rattle.std.specs.Prelude.{Bool, true, false}
-use Rattle.csl_style_values.specs.declared.style.StyleClass.{StyleClass}
-use Rattle.csl_style_values.specs.declared.style.StyleClass.TheVariants.{InText, Note}
-
-abbrev pub is_note : StyleClass → Bool
-is_note InText = false
-is_note Note = true

@@ -1,7 +1,0 @@
-use Rattle.std.proofs.Common.{◌≡◌, ◌++◌, filter, drop}
-use Rattle.csl_picking.specs.Names.{is_present}
-use Rattle.csl_picking.proofs.name_blocks.present.Given as goal
-
-abbrev pub invariant-loop-variable : goal.invariant-loop-variable
-invariant-loop-variable g l =
-    l.present.items ++ filter (is_present (g.T.EntryLike.answers l.entry) l.notes) (drop l.variable-index l.variables) ≡ filter (is_present (g.T.EntryLike.answers l.entry) l.notes) l.variables

@@ -1,7 +1,0 @@
--- For the code: the plain data that a picking stands for.
-use Rattle.csl_picking.specs.declared.held.Picking.{Picking}
-use Rattle.csl_picking.specs.PiecesView.{tokens_of}
-use Rattle.csl_picking.specs.Picked.{Held}
-
-abbrev pub held : Picking → Held
-held p = record { tokens = tokens_of p.pieces.items; called = p.called; noted = p.notes }

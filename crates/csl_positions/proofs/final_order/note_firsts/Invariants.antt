@@ -1,7 +1,0 @@
-use Rattle.std.proofs.Common.{◌≡◌, fold, take}
-use Rattle.csl_passes.specs.RendersView.{items_view}
-use Rattle.csl_positions.specs.FinalSteps.{stands_of, with_first}
-use Rattle.csl_positions.proofs.final_order.note_firsts.Given as goal
-
-abbrev pub invariant-loop-k : goal.invariant-loop-k
-invariant-loop-k g l = l.firsts ≡ fold with_first l.initial.firsts (stands_of l.r l.places (items_view (take l.k l.items)))

@@ -1,7 +1,0 @@
-use Rattle.std.proofs.Common.{◌≡◌, take}
-use Rattle.std.specs.Prelude.{filter_map, slice_get}
-use Rattle.csl_requested_mentions.specs.HomeView.{homes_view}
-use Rattle.csl_requested_mentions.proofs.homes.at_places.Given as goal
-
-abbrev pub invariant-loop-place : goal.invariant-loop-place
-invariant-loop-place g l = homes_view l.homes.items ≡ filter_map (slice_get (homes_view l.firsts)) (take l.place-index l.places)

@@ -1,9 +1,0 @@
-use Rattle.std.proofs.Common.{◌≡◌, ◌+◌, ◌++◌, drop, map}
-use Rattle.csl_lookup.specs.PropertiesView.{properties_view}
-use Rattle.csl_requested_mentions.specs.HomeView.{homes_view}
-use Rattle.csl_requested_mentions.specs.Mentions.{all_properties}
-use Rattle.csl_requested_mentions.proofs.properties.properties_of_mentions.Given as goal
-
-abbrev pub invariant-loop-index : goal.invariant-loop-index
-invariant-loop-index g l =
-    map properties_view l.properties.items ++ all_properties (l.offset + l.index) (homes_view (drop l.index l.homes)) ≡ all_properties l.offset (homes_view l.homes)

@@ -1,9 +1,0 @@
--- Mentions as plain data: each as the cite that it is where nothing tells it apart.
-use Rattle.csl_cited_mentions.specs.Cited.{first_task}
-use Rattle.csl_cited_mentions.specs.declared.mention.CiteMention.{CiteMention}
-use Rattle.csl_tables.specs.Tables.{with_mention}
-use Rattle.csl_tables.specs.declared.subject.Subject.{Subject}
-use Rattle.csl_writers.specs.Tasks.{CiteTaskValue}
-
-abbrev pub plain : {E P : Type 0} → Subject (CiteMention E P) → Subject (CiteTaskValue E P)
-plain = with_mention first_task

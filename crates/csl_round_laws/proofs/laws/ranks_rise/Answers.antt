@@ -1,5 +1,0 @@
-use Rattle.csl_round_laws.proofs.Risen.{ranks-rise}
-use Rattle.csl_round_laws.proofs.laws.ranks_rise.Goals as goal
-
-pub returns : goal.returns
-returns g c = λ writing firsts begun. ranks-rise g.T.PartialEq.eq g.met.T.Eq.laws writing firsts begun

@@ -1,7 +1,0 @@
-use Rattle.std.proofs.Common.{◌≡◌, None, get_or}
-use Rattle.std.specs.Option.{option_or}
-use Rattle.csl_passes.proofs.Halves.{half}
-use Rattle.csl_rounds.proofs.states.put_before.Given as goal
-
-abbrev pub invariant-loop-place : goal.invariant-loop-place
-invariant-loop-place l = l.kept ≡ half (λ p. option_or (get_or l.states p None)) l.place l.initial.kept

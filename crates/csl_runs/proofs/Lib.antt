@@ -1,6 +1,0 @@
-pub mod Tests
-pub mod Wholes
-pub mod Stepping
-pub mod Linked
-pub mod Following
-pub mod Suffixed

@@ -1,4 +1,0 @@
-pub mod Stretches
-pub mod NumberRanges
-pub mod SuffixStretches
-pub mod Links

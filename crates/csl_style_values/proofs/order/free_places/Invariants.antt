@@ -1,6 +1,0 @@
-use Rattle.std.proofs.Common.{length}
-use Rattle.csl_style_values.specs.Places.{IsWithin}
-use Rattle.csl_style_values.proofs.order.free_places.Given as goal
-
-abbrev pub invariant-loop-place : goal.invariant-loop-place
-invariant-loop-place l = IsWithin (length l.counts) l.free.items

@@ -1,5 +1,0 @@
-use Rattle.csl_style_values.proofs.Rows.{rows_of, no_round}
-use Rattle.csl_style_values.proofs.order.has_order.Goals as goal
-
-pub returns : goal.returns
-returns c = λ yes. no_round (rows_of c.args.rows.now) _ (c.leads_up.ensures yes)

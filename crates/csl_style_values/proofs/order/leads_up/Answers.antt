@@ -1,6 +1,0 @@
-use Rattle.csl_style_values.proofs.Rows.{row_within}
-use Rattle.csl_style_values.proofs.order.leads_up.Goals as goal
-
-pub row_leads_up-requires : goal.row_leads_up-requires
-row_leads_up-requires c =
-    row_within c.args.rows.now c.loop-i.i _ c.index-rows-i.result _ c.requires.closed c.loop-i-test.true c.index-rows-i.is c.deref.ensures.value c.requires.length

@@ -1,6 +1,0 @@
-use Rattle.csl_style_values.proofs.Rows.{row_within}
-use Rattle.csl_style_values.proofs.order.step_counts.Goals as goal
-
-pub count_steps-requires : goal.count_steps-requires
-count_steps-requires c =
-    row_within c.args.rows.now c.loop-i.i _ c.index-rows-i.result _ c.requires c.loop-i-test.true c.index-rows-i.is c.deref.ensures.value c.loop-i.invariant

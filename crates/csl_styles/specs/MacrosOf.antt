@@ -1,8 +1,0 @@
--- What a style whose macros were placed stands for: its macros.
-use Rattle.std.specs.Prelude.{List}
-use Rattle.csl_style_values.specs.Element.{Macro}
-use Rattle.csl_style_values.specs.StyleView.{style_view}
-use Rattle.csl_styles.specs.declared.macros.MacroTable.{MacroTable}
-
-abbrev pub macros_of : MacroTable → List Macro
-macros_of t = (style_view t.style.now).macros

@@ -1,8 +1,0 @@
-use Rattle.std.proofs.Common.{subst}
-use Rattle.csl_telling.specs.Known.{everywhere}
-use Rattle.csl_telling.specs.Rivals.{TellsMore, named_keys}
-use Rattle.csl_telling.proofs.document.add_person.Goals as goal
-
-pub returns : goal.returns
-returns c =
-    subst (λ r. TellsMore c.args.rivals.now c.add_named.new.rivals (named_keys everywhere r)) c.in_ok-look.ensures c.in_ok-add_named.ensures

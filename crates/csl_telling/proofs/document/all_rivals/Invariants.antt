@@ -1,9 +1,0 @@
-use Rattle.std.proofs.Common.{take}
-use Rattle.std.specs.List.{flat_map}
-use Rattle.csl_telling.specs.Known.{person_keys}
-use Rattle.csl_telling.specs.Persons.{names_asking}
-use Rattle.csl_telling.specs.Rivals.{AreRivals}
-use Rattle.csl_telling.proofs.document.all_rivals.Given as goal
-
-abbrev pub invariant-loop-mention : goal.invariant-loop-mention
-invariant-loop-mention l = AreRivals l.rivals (flat_map (λ m. flat_map person_keys (names_asking m)) (take l.mention-index l.mentions))

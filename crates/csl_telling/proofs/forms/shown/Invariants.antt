@@ -1,7 +1,0 @@
-use Rattle.std.proofs.Common.{◌≡◌, ◌+◌, drop}
-use Rattle.csl_telling.specs.Forms.{shown}
-use Rattle.csl_telling.specs.Persons.{own_forms}
-use Rattle.csl_telling.proofs.forms.shown.Given as goal
-
-abbrev pub invariant-loop-i : goal.invariant-loop-i
-invariant-loop-i l = shown (own_forms l.names) ≡ l.i + shown (own_forms (drop l.i l.names))

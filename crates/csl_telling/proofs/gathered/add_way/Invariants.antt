@@ -1,8 +1,0 @@
-use Rattle.std.proofs.Common.{take}
-use Rattle.std.specs.List.{flat_map}
-use Rattle.csl_telling.specs.Gathered.{shown_at}
-use Rattle.csl_telling.specs.Rivals.{TellsMore}
-use Rattle.csl_telling.proofs.gathered.add_way.Given as goal
-
-abbrev pub invariant-loop-stop : goal.invariant-loop-stop
-invariant-loop-stop l = TellsMore l.fn.beside l.beside (flat_map (shown_at l.way.by_cite) (take l.stop-index l.stop-items))

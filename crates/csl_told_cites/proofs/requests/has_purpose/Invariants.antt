@@ -1,7 +1,0 @@
-use Rattle.std.proofs.Common.{◌≡◌, drop}
-use Rattle.csl_passes.specs.RequestView.{cites_view}
-use Rattle.csl_told_cites.specs.Requests.{has_purpose}
-use Rattle.csl_told_cites.proofs.requests.has_purpose.Given as goal
-
-abbrev pub invariant-loop-item : goal.invariant-loop-item
-invariant-loop-item g l = has_purpose (cites_view l.items) ≡ has_purpose (cites_view (drop l.item-index l.items))

@@ -1,8 +1,0 @@
--- One level: the children up to now are joined.
-use Rattle.std.proofs.Common.{◌≡◌, map}
-use Rattle.csl_trees.specs.ChildView.{child_view}
-use Rattle.csl_trees.specs.Simplify.{level_joined}
-use Rattle.csl_trees.proofs.simplify.join_adjacent.Given as goal
-
-abbrev pub invariant-loop-child : goal.invariant-loop-child
-invariant-loop-child l = l.children ≡ level_joined (map child_view l.yielded)

@@ -1,0 +1,9 @@
+-- One more macro was read.
+use Rattle.value_styles.specs.ElementView.{macro_view}
+use Rattle.document_styles.specs.Styles.{macro_form}
+use Rattle.document_values.proofs.Progress.{Progress-pushed}
+use Rattle.document_styles.proofs.styles.all_macros.Goals as goal
+
+pub loop-place-preserved : goal.loop-place-preserved
+loop-place-preserved c =
+    Progress-pushed macro_form macro_view _ _ _ _ _ _ c.loop-place-test.true c.index-items-place.is c.in-Ok.ensures.read c.in_ok-push-in-Ok.ensures.items c.loop-place.invariant

@@ -1,0 +1,11 @@
+-- An error of a person is one of the object.
+use Rattle.std.proofs.Common.{codes}
+use Rattle.serde_json.specs.View.{view, items_view}
+use Rattle.document_styles.proofs.ListFaults.{required_fault}
+use Rattle.document_tasks.proofs.metas.persons_at.Goals as goal
+
+pub returns-in-Err-clause-fault : goal.returns-in-Err-clause-fault
+returns-in-Err-clause-fault c =
+    let object = view c.args.object.now in
+    required_fault (codes "persons") object (items_view c.in_ok-list.list.now) c.in-Err.error c.under.result c.in_ok-list.ensures.read
+    c.in-Err.ensures.fault (c.under.ensures.fault object)

@@ -1,4 +1,0 @@
-//! A writer that answers from a table of what a host has written before.
-#![tactic(auto)]
-
-pub mod table;

@@ -1,9 +1,0 @@
-use Rattle.std.proofs.Common.{append_assoc, lit<}
-use Rattle.json_answer.proofs.AnswerObjects.{citation_text}
-use Rattle.json_answer.proofs.Closing.{closed}
-use Rattle.json_answer.proofs.answers.write_citation.Goals as goal
-
-pub returns : goal.returns
-returns c =
-    closed c.push.result _ _ _ _ (lit< tt) c.push.ensures.bytes
-    (rw (c.in_ok-write_note.ensures, c.in_ok-write_children.ensures, c.in_ok-push_str.ensures.bytes, citation_text c.args.citation.now) (simp append_assoc))

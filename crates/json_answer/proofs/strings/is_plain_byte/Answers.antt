@@ -1,5 +1,0 @@
-use Rattle.json_answer.proofs.Escaped.{plain_unless_backslash}
-use Rattle.json_answer.proofs.strings.is_plain_byte.Goals as goal
-
-pub returns-then-byte-ne34 : goal.returns-then-byte-ne34
-returns-then-byte-ne34 c = plain_unless_backslash c.args.byte c.if-byte-ne34.true.0 c.if-byte-ne34.true.1

@@ -1,7 +1,0 @@
--- Persons are read one after another.
-use Rattle.json_document.specs.Entries.{person_form}
-use Rattle.json_values.proofs.Progress.{Progress}
-use Rattle.json_document.proofs.persons.all_persons.Given as goal
-
-abbrev pub invariant-loop-place : goal.invariant-loop-place
-invariant-loop-place l = Progress person_form l.items l.place l.persons.items

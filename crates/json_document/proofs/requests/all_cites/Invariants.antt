@@ -1,9 +1,0 @@
--- Cites are read one after another.
-use Rattle.json_document.specs.JobView.{asked_cites_view}
-use Rattle.json_document.specs.Finders.{text_in}
-use Rattle.json_document.specs.Requests.{item_form}
-use Rattle.json_values.proofs.Progress.{Progress}
-use Rattle.json_document.proofs.requests.all_cites.Given as goal
-
-abbrev pub invariant-loop-place : goal.invariant-loop-place
-invariant-loop-place l = Progress (item_form (text_in l.entries) l.rounds) l.items l.place (asked_cites_view l.cites.items)

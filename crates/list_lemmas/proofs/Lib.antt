@@ -1,0 +1,4 @@
+pub mod Tests
+pub mod Wholes
+pub mod Stepping
+pub mod Members

@@ -1,0 +1,18 @@
+use Rattle.std.proofs.Common.{ap, map, refl, ◌∙◌}
+use Rattle.mentions_notes.specs.Requests.{request_view as repeating_view}
+use Rattle.mentions_arranging.specs.Repeating.{repeating_cite, repeating_request}
+use Rattle.mentions_arranging.specs.Requests.{request_view}
+use Rattle.mentions_arranging.proofs.Walking.{all-mapped, mapped-next, seen_repeating}
+use Rattle.mentions_arranging.proofs.repeating.repeating_requests.Goals as goal
+
+pub loop-request-preserved : goal.loop-request-preserved
+loop-request-preserved g c =
+    let m = c.request-item.result in
+    let is = c.in_ok-repeating_cites.ensures ∙ ap (map repeating_cite) c.deref.ensures.value in
+    mapped-next repeating_view seen_repeating c.args.requests.now c.loop-request.request-index m c.loop-request-test.true c.request-item.is c.loop-request.found.items c.push.new.self.items
+    (record { note = m.facts.note; cites = c.in_ok-repeating_cites.field-0 }) c.loop-request.invariant (λ i. record { note = m.facts.note; cites = is i }) c.in_ok-push.ensures.items
+
+pub returns : goal.returns
+returns g c =
+    all-mapped repeating_view seen_repeating c.args.requests.now c.loop-request.request-index request_view repeating_request (λ r. refl) c.loop-request-test.false c.loop-request.found.items
+    c.loop-request.invariant

@@ -1,0 +1,7 @@
+use Rattle.std.proofs.Common.{◌≡◌, map, take}
+use Rattle.mentions_notes.specs.Requests.{requests_view}
+use Rattle.mentions_arranging.proofs.Walking.{seen_repeating}
+use Rattle.mentions_arranging.proofs.repeating.repeating_requests.Given as goal
+
+abbrev pub invariant-loop-request : goal.invariant-loop-request
+invariant-loop-request g l = requests_view l.found.items ≡ map seen_repeating (take l.request-index l.requests)

@@ -1,0 +1,14 @@
+pub mod AskedFor
+pub mod Cites
+pub mod WritingOn
+pub mod Walking
+pub mod Handing
+pub mod Again
+pub mod Cutting
+pub mod Standing
+pub mod Gathering
+pub mod Firsts
+pub mod Telling
+pub mod Finding
+pub mod Pairing
+pub mod Picking

@@ -1,0 +1,10 @@
+pub mod Kept
+pub mod ToldMeans
+pub mod Cited
+pub mod WritesOn
+pub mod Handed
+pub mod Homes
+pub mod HomeView
+pub mod Mentions
+pub mod Plain
+pub mod Steps

@@ -1,0 +1,10 @@
+use Rattle.std.proofs.Common.{sym, ◌∙◌}
+use Rattle.mentions_ranges.specs.NumberRanges.{rises}
+use Rattle.mentions_ranges.proofs.Linked.{linked-past, linked-within}
+use Rattle.mentions_ranges.proofs.numbers.rises_behind.Goals as goal
+
+pub returns-then-next-cites : goal.returns-then-next-cites
+returns-then-next-cites c = c.is_next.ensures ∙ sym (linked-within rises c.args.cites.now c.args.k _ _ c.if-next-cites.true)
+
+pub returns-else-next-cites : goal.returns-else-next-cites
+returns-else-next-cites c = sym (linked-past rises c.args.cites.now c.args.k c.if-next-cites.false)

@@ -1,0 +1,15 @@
+pub mod Classes
+pub mod NamesSeen
+pub mod KeyLaws
+pub mod Entries
+pub mod Marks
+pub mod OrderLaws
+pub mod Placing
+pub mod Swaps
+pub mod Whole
+pub mod Kept
+pub mod FinalOrders
+pub mod ByPlaces
+pub mod RunLemmas
+pub mod StretchLemmas
+pub mod ReadBack

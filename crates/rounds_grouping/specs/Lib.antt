@@ -1,0 +1,17 @@
+pub mod BlockKeys
+pub mod Blocks
+pub mod Tokens
+pub mod TokenView
+pub mod SameTokens
+pub mod NamesOrder
+pub mod NamesLaws
+pub mod Steps
+pub mod Moves
+pub mod Laws
+pub mod FinalOrder
+pub mod Stretches
+pub mod NumberRuns
+pub mod YearStretches
+pub mod Collapsed
+pub mod CollapseSteps
+pub mod NumberLaws

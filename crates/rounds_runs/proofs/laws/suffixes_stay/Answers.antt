@@ -1,0 +1,22 @@
+use Rattle.std.proofs.Common.{None}
+use Rattle.rounds_runs.proofs.Suffixes.{suffixes-stay}
+use Rattle.rounds_runs.proofs.laws.suffixes_stay.Goals as goal
+
+pub returns : goal.returns
+returns g c = λ writing mode firsts begun. suffixes-stay mode g.T.PartialEq.eq writing firsts
+    (record {
+      equal = g.met.T.Eq.laws;
+      goes = c.states_go_on.ensures.on_and_on;
+      order = c.states_have_a_greatest.ensures.in_order;
+      never_below = c.states_have_a_greatest.ensures.never_below;
+      names = c.name_marks_go_on.ensures;
+      without_suffix = c.ambiguous_stand_together.ensures.without_suffix;
+      choose = c.choose_and_suffix_go_on.ensures.choose;
+      suffix = c.choose_and_suffix_go_on.ensures.suffix;
+    })
+    (record {
+      count = c.suffixes_count_entries.ensures;
+      all_in = λ es e. (c.bibliography_holds_each_once.ensures None es).same e;
+      once = λ es. (c.bibliography_holds_each_once.ensures None es).once;
+    })
+    begun
