@@ -5,11 +5,11 @@ use Rattle.std.specs.Cmp.{IsEquivalence}
 use Rattle.std.specs.List.{range_with_len}
 use Rattle.std.proofs.lemmas.List.{map-append}
 use Rattle.std.proofs.lemmas.List.Elements.{All-cons, All-head, All-nil, All-tail}
+use Rattle.std.proofs.lemmas.Simd.{map-map}
 use Rattle.driver_entries.specs.Entries.{is_in, place}
 use Rattle.driver_entries.specs.Laws.{NoTwoEqual}
 use Rattle.driver_entries.proofs.ListedPlaces.{all-cited, place-within}
 use Rattle.driver_entries.proofs.Once.{without_gaps}
-use Rattle.driver_entries.proofs.Placed.{map-map}
 use Rattle.driver_entries.proofs.Placing.{all_in, left, right}
 use Rattle.driver_lookup.specs.declared.state.DisambiguateState.{DisambiguateState}
 use Rattle.driver_positions.specs.FirstProperties.{numbered_by}

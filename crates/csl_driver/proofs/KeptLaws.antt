@@ -8,6 +8,7 @@ use Rattle.std.proofs.lemmas.List.Elements.{All-cons, All-nil}
 use Rattle.std.proofs.lemmas.List.Sorted.{length_permutation}
 use Rattle.std.proofs.Math.ListN.{length-map}
 use Rattle.std.proofs.lemmas.Bool.{or_left, or_right}
+use Rattle.std.proofs.lemmas.Simd.{map-map}
 use Rattle.driver_assembly.specs.declared.rendered.Rendered.{Rendered}
 use Rattle.driver_writers.specs.Writing.{Writing}
 use Rattle.rounds_grouping.specs.Collapsed.{collapsed, collapsed_finally}
@@ -32,7 +33,6 @@ use Rattle.driver_entries.specs.Entries.{bibliography_order, distinct, is_in, nu
 use Rattle.driver_entries.specs.Laws.{HoldsEachOnce, NoTwoEqual, NumbersWithoutGaps}
 use Rattle.driver_entries.specs.Table.{table_of}
 use Rattle.driver_entries.proofs.Distinct.{is_in-distinct}
-use Rattle.driver_entries.proofs.Placed.{map-map}
 use Rattle.rounds_grouping.specs.Blocks.{grouped, is_grouped}
 use Rattle.rounds_grouping.specs.FinalOrder.{HasFinalOrder}
 use Rattle.driver_passes.specs.Renders.{CiteRender}

@@ -7,6 +7,7 @@ use Rattle.std.specs.List.Sorted.{IsPermutation}
 use Rattle.std.proofs.Math.ListN.{length-map}
 use Rattle.std.proofs.lemmas.List.Elements.{All-head, All-tail}
 use Rattle.std.proofs.lemmas.List.Sorted.{length_permutation}
+use Rattle.std.proofs.lemmas.Simd.{map-map}
 use Rattle.driver_assembly.specs.BibliographyItems.{bibliography_of, with_first_field, written_item}
 use Rattle.driver_assembly.specs.declared.rendered.RenderedBibliography.{RenderedBibliography}
 use Rattle.value_styles.specs.Style.{BibliographyValue}
@@ -17,7 +18,6 @@ use Rattle.csl_driver.proofs.EachOnce.{permuted}
 use Rattle.driver_entries.specs.Entries.{is_in}
 use Rattle.driver_entries.specs.Laws.{NoTwoEqual}
 use Rattle.driver_entries.proofs.Distinct.{is_in-equal}
-use Rattle.driver_entries.proofs.Placed.{map-map}
 use Rattle.driver_lookup.specs.Lookup.{Source}
 use Rattle.driver_passes.specs.Renders.{CiteRender, ItemRender}
 use Rattle.driver_passes.specs.Request.{wanted_source}

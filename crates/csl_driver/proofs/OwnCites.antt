@@ -7,12 +7,12 @@ use Rattle.std.specs.Option.{option_map_or}
 use Rattle.std.proofs.Math.Seq.{length-take-le}
 use Rattle.std.proofs.lemmas.List.Elements.{All-cons, All-nil}
 use Rattle.std.proofs.lemmas.List.Sorted.{IsPermutation-map, IsPermutation-refl, IsPermutation-trans}
+use Rattle.std.proofs.lemmas.Simd.{map-map}
 use Rattle.csl_driver.specs.Answer.{Job, entries_listed, in_final_order, rendered_first}
 use Rattle.csl_driver.specs.AnswerLaws.{HasOwnCites, cite_of}
 use Rattle.csl_driver.proofs.FirstPlaced.{from}
 use Rattle.csl_driver.proofs.Standing.{all-changed, all-mapped, grouped-request, same-changed}
 use Rattle.driver_entries.specs.Entries.{number}
-use Rattle.driver_entries.proofs.Placed.{map-map}
 use Rattle.rounds_grouping.specs.Blocks.{grouped, is_grouped}
 use Rattle.rounds_grouping.specs.FinalOrder.{HasFinalOrder}
 use Rattle.rounds_grouping.specs.Laws.{bare}

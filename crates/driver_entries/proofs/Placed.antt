@@ -61,7 +61,3 @@ module _ {E : Type 0} (eq : E → E → Bool) where
     inserted now x ks new k n p =
         subst (λ xs. StandsAt eq xs (now x) k) (sym (insert-view now eq x ks new n))
         (subst (λ i. StandsAt eq (with_new eq (map now ks) (now x)) (now x) i) (sym (p ∙ place-view now eq (now x) ks)) (own (now x) (map now ks)))
-
-pub map-map : {A B C : Type 0} (f : B → C) (g : A → B) (xs : List A) → map f (map g xs) ≡ map (λ x. f (g x)) xs
-map-map f g [] = refl
-map-map f g (x ∷ xs) = ap (λ t. f (g x) ∷ t) (map-map f g xs)

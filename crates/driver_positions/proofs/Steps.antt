@@ -4,10 +4,10 @@ use Rattle.std.specs.Cmp.{IsEquivalence}
 use Rattle.std.specs.Option.{ForSome, option_and, option_or}
 use Rattle.std.proofs.lemmas.List.{get_or-map, length-map, take_at, take_more}
 use Rattle.std.proofs.lemmas.List.Folds.{list_any_at}
+use Rattle.std.proofs.lemmas.Simd.{map-map}
 use Rattle.driver_entries.specs.Entries.{is_in, place}
 use Rattle.driver_entries.specs.Table.{Table, places_in}
 use Rattle.driver_entries.proofs.ListedPlaces.{place-within}
-use Rattle.driver_entries.proofs.Placed.{map-map}
 use Rattle.driver_passes.specs.Request.{RequestedCite, Request, entries_of}
 use Rattle.driver_positions.specs.Seen.{IsTableOf, seen_of}
 use Rattle.driver_positions.specs.declared.first.Seen.{Seen}

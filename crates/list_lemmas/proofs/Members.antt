@@ -31,10 +31,6 @@ enumerate-push b (y ∷ ys) x =
     ap (λ ps. (b, y) ∷ ps) (enumerate-push (b + 1) ys x ∙ ap (λ n. enumerate_from (b + 1) ys ++ (n, x) ∷ []) e)
 
 module _ {X Y : Type 0} where
-  pub map-map : {Z : Type 0} (g : Y → Z) (f : X → Y) (xs : List X) → map g (map f xs) ≡ map (λ x. g (f x)) xs
-  map-map g f [] = refl
-  map-map g f (x ∷ xs) = ap (λ l. g (f x) ∷ l) (map-map g f xs)
-
   pub zip-map : (f : X → Y) (xs : List X) → zip xs (map f xs) ≡ map (λ x. (x, f x)) xs
   zip-map f [] = refl
   zip-map f (x ∷ xs) = ap (λ l. (x, f x) ∷ l) (zip-map f xs)

@@ -4,11 +4,11 @@ use Rattle.std.specs.Prelude.{filter_map, is_some, slice_get}
 use Rattle.std.specs.Cmp.{IsEquivalence}
 use Rattle.std.specs.List.{cons_option}
 use Rattle.std.proofs.lemmas.List.{map-append}
+use Rattle.std.proofs.lemmas.Simd.{map-map}
 use Rattle.driver_entries.specs.Entries.{distinct, is_in, place}
 use Rattle.driver_entries.specs.Listed.{IsListingOf, Listed}
 use Rattle.driver_entries.proofs.Distinct.{is_in-distinct}
 use Rattle.driver_entries.proofs.ListedPlaces.{all-cited}
-use Rattle.driver_entries.proofs.Placed.{map-map}
 use Rattle.driver_entries.proofs.Placing.{all_in, left, right}
 use Rattle.mentions_notes.specs.Notes.{all_notes}
 use Rattle.mentions_notes.specs.declared.notes.CiteNotes.{CiteNotes}

@@ -4,10 +4,10 @@ use Rattle.std.specs.List.{enumerate_from}
 use Rattle.std.specs.Prelude.{take}
 use Rattle.std.proofs.lemmas.List.{length-append, length-map}
 use Rattle.std.proofs.lemmas.List.FromFn.{length-enumerate_from}
+use Rattle.std.proofs.lemmas.Simd.{map-map}
 use Rattle.driver_entries.specs.Entries.{place}
 use Rattle.driver_entries.specs.Listed.{IsListingOf, Listed}
 use Rattle.driver_entries.specs.Table.{Table, places_in, table_of}
-use Rattle.driver_entries.proofs.Placed.{map-map}
 use Rattle.mentions_notes.specs.Notes.{all_notes, notes_behind}
 use Rattle.mentions_notes.specs.declared.notes.HandedCite.{HandedCite}
 use Rattle.driver_passes.specs.Request.{RequestedCite, Request, cites_of, entries_of}

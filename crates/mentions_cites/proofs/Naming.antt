@@ -9,6 +9,7 @@ use Rattle.std.proofs.Math.ListN.{get_or-map}
 use Rattle.std.proofs.lemmas.List.{get_or_default, length-map, length-take-le, take_all}
 use Rattle.std.proofs.lemmas.List.Folds.{find-append}
 use Rattle.std.proofs.lemmas.Slice.Zip.{length-zip}
+use Rattle.list_lemmas.proofs.Members.{enumerate-push}
 use Rattle.value_sources.specs.EqualEntries.{persons_find}
 use Rattle.value_sources.specs.Finds.{Finds, and-true, both, lists_find, texts_find}
 use Rattle.mentions_cited.specs.declared.kept.KeptOfMention.{KeptOfMention}
@@ -67,12 +68,6 @@ noted-more old new names k none at n = at n ∙ by (same_names names n) refl
         is-new (first_noted old n) (ap (λ m. is_some (first_noted old m)) (sym one) ∙ none)
         ∙ ap (λ b. option_or (first_noted old n) (cond b (Some k) None)) (sym own)
     by false p = or-none (first_noted old n) ∙ ap (λ b. option_or (first_noted old n) (cond b (Some k) None)) (sym (names-differ names n p))
-
-pub enumerate-push : {X : Type 0} (n : ℕ) (xs : List X) (x : X) → enumerate_from n (xs ++ x ∷ []) ≡ enumerate_from n xs ++ (n + length xs, x) ∷ []
-enumerate-push n [] x = ap (λ k. (k, x) ∷ []) (omega arith)
-enumerate-push n (y ∷ ys) x =
-    ap (λ l. (n, y) ∷ l) (enumerate-push (n + 1) ys x
-    ∙ ap (λ k. enumerate_from (n + 1) ys ++ (k, x) ∷ []) (omega arith))
 
 -- the first with names, once one more is there
 first-push : (ms : List KeptOfMention) (m : KeptOfMention) (n : ShownNames)

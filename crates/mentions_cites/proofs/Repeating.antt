@@ -19,7 +19,7 @@ use Rattle.mentions_tables.proofs.Changing.{take-next}
 use Rattle.mentions_cites.specs.Mentions.{kept_last, mention_index}
 use Rattle.mentions_cites.specs.Repeats.{reads_alike, repeat_task, repeat_tasks, shown_by, shown_repeat, task_told}
 use Rattle.mentions_cites.specs.declared.mentions.ToldMention.{ToldMention}
-use Rattle.mentions_cites.proofs.Naming.{enumerate-push}
+use Rattle.list_lemmas.proofs.Members.{enumerate-push}
 use Rattle.driver_writers.specs.Desk.{Desk, after}
 use Rattle.driver_writers.specs.Tasks.{CiteTaskValue, cite_task}
 use Rattle.driver_writers.specs.declared.cite.Cite.{Cite}

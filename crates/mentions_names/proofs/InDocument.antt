@@ -4,6 +4,7 @@ use Rattle.std.proofs.Common.{◌≡◌, ℕ, Bool, true, false, cond, not, ◌&
 use Rattle.std.specs.Prelude.{bytes_eq, filter}
 use Rattle.std.specs.BTreeMap.{BTreeMap}
 use Rattle.std.specs.List.{flat_map, list_any}
+use Rattle.list_lemmas.proofs.Members.{any-map}
 use Rattle.value_sources.specs.declared.names.DisambiguatedNameForm.{DisambiguatedNameForm}
 use Rattle.value_styles.specs.declared.style.DisambiguationRule.{DisambiguationRule}
 use Rattle.mentions_names.specs.ByDocument.{document_form, form_by_rule}
@@ -17,7 +18,7 @@ use Rattle.mentions_names.specs.declared.mention.MentionedName.{MentionedName}
 use Rattle.mentions_names.specs.declared.mention.NamedMention.{NamedMention}
 use Rattle.mentions_names.specs.declared.rivals.Held.{Held}
 use Rattle.mentions_names.specs.declared.rivals.SharedName.{SharedName}
-use Rattle.mentions_names.proofs.Logic.{any-filter, any-flat_map, any-map, any-same}
+use Rattle.mentions_names.proofs.Logic.{any-filter, any-flat_map, any-same}
 
 module _ (r : Look) where
   by-family : (s : Look) → is_other_shown (by_family everywhere r) r (named_keys everywhere s) ≡ is_namesake r s

@@ -32,10 +32,6 @@ module _ {X : Type 0} where
       by true rest = ap (λ c. p x || c) rest
       by false rest = rest
 
-  pub any-map : {Y : Type 0} (p : X → Bool) (f : Y → X) (ys : List Y) → list_any p (map f ys) ≡ list_any (λ y. p (f y)) ys
-  any-map p f [] = refl
-  any-map p f (y ∷ ys) = ap (λ c. p (f y) || c) (any-map p f ys)
-
   pub any-flat_map : {Y : Type 0} (p : X → Bool) (f : Y → List X) (ys : List Y) → list_any p (flat_map f ys) ≡ list_any (λ y. list_any p (f y)) ys
   any-flat_map p f [] = refl
   any-flat_map p f (y ∷ ys) = list_any-append p (f y) (flat_map f ys) ∙ ap (λ c. list_any p (f y) || c) (any-flat_map p f ys)

@@ -9,6 +9,7 @@ use Rattle.std.proofs.lemmas.List.Elements.{All-head, All-tail}
 use Rattle.std.proofs.lemmas.List.Folds.{flat_map-map}
 use Rattle.std.proofs.lemmas.Option.{slice_get_past}
 use Rattle.std.proofs.lemmas.Bool.{cases_lt, eqb-true, le-ltb, lt-ltb, ltb-false, ltb-true, ne_eqb}
+use Rattle.list_lemmas.proofs.Members.{any-map}
 use Rattle.value_sources.specs.declared.names.DisambiguatedNameForm.{DisambiguatedNameForm}
 use Rattle.mentions_names.specs.Forms.{greatest_form}
 use Rattle.mentions_names.specs.Gathered.{IsGathered, count_at, count_from, count_of, ends_at, ends_of, ends_with, forms_at, forms_from, is_end, needs, needs_on, same_node, shown_at, shown_by, shown_from}
@@ -27,7 +28,7 @@ use Rattle.mentions_names.proofs.Counting.{greatest-asked, greatest-at, greatest
 use Rattle.mentions_names.proofs.Deciding.{looks_find}
 use Rattle.mentions_names.proofs.Differing.{as-far, differs-at, is_place, within-both}
 use Rattle.mentions_names.proofs.Leading.{at, same-lead, same_looks}
-use Rattle.mentions_names.proofs.Logic.{and-assoc, and-false, and-yes, any-filter, any-flat_map, any-map, any-same, nowhere, only-at}
+use Rattle.mentions_names.proofs.Logic.{and-assoc, and-false, and-yes, any-filter, any-flat_map, any-same, nowhere, only-at}
 
 any-same-all : {X : Type 0} (P : X → Type 0) (p q : X → Bool) → ((x : X) → P x → p x ≡ q x) → (xs : List X) → All P xs → list_any p xs ≡ list_any q xs
 any-same-all P p q h [] all = refl

@@ -10,7 +10,8 @@ use Rattle.mentions_tables.specs.Tables.{all_tasks, first_tasks, second_table, t
 use Rattle.mentions_tables.specs.declared.subject.Subject.{Subject}
 use Rattle.mentions_table_laws.specs.Pairs.{AreMentionsInPairs}
 use Rattle.mentions_table_laws.specs.TellingLaws.{HasBounds, has_names, rounds_of}
-use Rattle.mentions_table_laws.proofs.Listing.{count-within, mapped-count, zipped-count}
+use Rattle.list_lemmas.proofs.Members.{count-within}
+use Rattle.mentions_table_laws.proofs.Listing.{mapped-count, zipped-count}
 use Rattle.mentions_table_laws.proofs.Paired.{twice-as-many}
 use Rattle.mentions_table_laws.proofs.Settled.{settled, third-table}
 

@@ -18,7 +18,9 @@ use Rattle.mentions_tables.specs.Asked.{untold}
 use Rattle.mentions_tables.specs.Tables.{named, second_table, with_names}
 use Rattle.mentions_tables.specs.declared.subject.Subject.{Subject}
 use Rattle.mentions_table_laws.specs.Growing.{AreFuller, FormsRise, HasFullerNames, NamesRise, StateRises, StatesGrow}
-use Rattle.mentions_table_laws.proofs.Listing.{all-every, all-of-maps, any-here, any-later, map-map, zip-map}
+use Rattle.std.proofs.lemmas.Simd.{map-map}
+use Rattle.list_lemmas.proofs.Members.{zip-map}
+use Rattle.mentions_table_laws.proofs.Listing.{all-every, all-of-maps, any-here, any-later}
 use Rattle.mentions_table_laws.proofs.Settled.{settled}
 
 pub greater-extent : (f g : DisambiguatedNameForm) → extent (greater f g) ≡ max (extent f) (extent g)

@@ -7,14 +7,6 @@ use Rattle.std.proofs.lemmas.List.Elements.{All-cons, All-head, All-nil, All-tai
 use Rattle.std.proofs.lemmas.Option.{none-some, same_Some}
 
 module _ {X Y : Type 0} where
-  pub zip-map : (f : X → Y) (xs : List X) → zip xs (map f xs) ≡ map (λ x. (x, f x)) xs
-  zip-map f [] = refl
-  zip-map f (x ∷ xs) = ap (λ l. (x, f x) ∷ l) (zip-map f xs)
-
-  pub map-map : {Z : Type 0} (g : Y → Z) (f : X → Y) (xs : List X) → map g (map f xs) ≡ map (λ x. g (f x)) xs
-  map-map g f [] = refl
-  map-map g f (x ∷ xs) = ap (λ l. g (f x) ∷ l) (map-map g f xs)
-
   pub zip-maps : {Z : Type 0} (f : X → Y) (g : X → Z) (xs : List X) → zip xs (zip (map f xs) (map g xs)) ≡ map (λ x. (x, (f x, g x))) xs
   zip-maps f g [] = refl
   zip-maps f g (x ∷ xs) = ap (λ l. (x, (f x, g x)) ∷ l) (zip-maps f g xs)
@@ -77,14 +69,6 @@ module _ {X : Type 0} where
       by : (b : Bool) → (cond b (x ∷ filter p xs) (filter p xs) ≡ [] → ⊥) → ((filter p xs ≡ [] → ⊥) → list_any p xs ≡ true) → (b || list_any p xs) ≡ true
       by true h rest = refl
       by false h rest = rest h
-
-  pub count-within : (p : X → Bool) (xs : List X) → length (filter p xs) ≤ length xs
-  count-within p [] = omega arith
-  count-within p (x ∷ xs) = by (p x) (count-within p xs)
-    where
-      by : (b : Bool) → length (filter p xs) ≤ length xs → length (cond b (x ∷ filter p xs) (filter p xs)) ≤ suc (length xs)
-      by true h = omega arith
-      by false h = omega arith
 
   -- one that passes is counted behind its place
   pub counts-rise : (p : X → Bool) (xs : List X) (k j : ℕ) (d : X) → k < j → k < length xs → p (get_or xs k d) ≡ true → length (filter p (take k xs)) < length (filter p (take j xs))

@@ -34,7 +34,8 @@ use Rattle.mentions_table_laws.specs.Shown.{NamesCanTell, NamesTell, ShowsLeadin
 use Rattle.mentions_table_laws.proofs.Apart.{unlike}
 use Rattle.mentions_table_laws.proofs.Appearing.{all-shown, base-written, form-at, form-member, forms-are, forms-from, greatest-member, greatest-within, none-left-out, own-written, raised-first, raised-left, raised-shown, raised-written, short-adds-nothing, shown-at, shown-within, shown_in}
 use Rattle.mentions_table_laws.proofs.Fuller.{greater-extent}
-use Rattle.mentions_table_laws.proofs.Listing.{KeptAt, kept-at, zip-map}
+use Rattle.list_lemmas.proofs.Members.{zip-map}
+use Rattle.mentions_table_laws.proofs.Listing.{KeptAt, kept-at}
 use Rattle.mentions_table_laws.proofs.Placing.{MadeAt, among-first, before-position, behind-drop, difference-symm, ends-there, made-at, no-difference, one-group, position-within}
 use Rattle.mentions_table_laws.proofs.Settled.{settled}
 

@@ -4,7 +4,8 @@ use Rattle.mentions_groups.specs.declared.state.MentionState.{MentionState}
 use Rattle.mentions_groups.specs.declared.written.Written.{Written}
 use Rattle.mentions_tables.specs.Tables.{mention_in, mentions_in, third_table, with_choice, with_names}
 use Rattle.mentions_tables.specs.declared.subject.Subject.{Subject}
-use Rattle.mentions_table_laws.proofs.Listing.{map-map, zip-map}
+use Rattle.std.proofs.lemmas.Simd.{map-map}
+use Rattle.list_lemmas.proofs.Members.{zip-map}
 
 module _ {M : Type 0} (write : M → MentionState → Written) (subjects : List (Subject M)) where
   -- its state in the end

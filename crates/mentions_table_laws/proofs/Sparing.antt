@@ -35,7 +35,8 @@ use Rattle.mentions_table_laws.proofs.Choosing.{not-asked, rivals}
 use Rattle.mentions_table_laws.proofs.Classing.{entry-at, entry-there, in-none, mistaken, none-gets, same-text, text-known}
 use Rattle.mentions_table_laws.proofs.Counted.{suffix-there, suffix-without}
 use Rattle.mentions_table_laws.proofs.Fuller.{some_names}
-use Rattle.mentions_table_laws.proofs.Listing.{all-every, all-under, enumerated-at, zip-map}
+use Rattle.list_lemmas.proofs.Members.{zip-map}
+use Rattle.mentions_table_laws.proofs.Listing.{all-every, all-under, enumerated-at}
 use Rattle.mentions_table_laws.proofs.Paired.{entries-in-order}
 use Rattle.mentions_table_laws.proofs.Settled.{read-by, settled}
 

@@ -6,6 +6,7 @@ use Rattle.std.proofs.lemmas.Bool.Decides.{nat_tests}
 use Rattle.std.proofs.lemmas.List.{map-append, take_more}
 use Rattle.std.proofs.lemmas.Grind.{common_steps}
 use Rattle.std.proofs.Math.ListN.{length-map, set}
+use Rattle.list_lemmas.proofs.Members.{enumerate-push}
 use Rattle.ordered_set.specs.Keys.{with_key}
 use Rattle.ordered_set.proofs.Adding.{with-new}
 use Rattle.driver_passes.specs.Renders.{ItemRender}
@@ -77,12 +78,6 @@ keys-after key ks new r e h n = n ∙ sym (with-new (key_eq.ghosts).eq ks key (s
 
 length-take-at : {X : Type 0} (k : ℕ) (xs : List X) → k < length xs → length (take k xs) ≡ k
 length-take-at k xs h = grind (arith, common_steps)
-
-pub enumerate-push : {X : Type 0} (b : ℕ) (xs : List X) (x : X) → enumerate_from b (xs ++ x ∷ []) ≡ enumerate_from b xs ++ (b + length xs, x) ∷ []
-enumerate-push b [] x = let e : b ≡ b + 0 = omega arith in ap (λ n. (n, x) ∷ []) e
-enumerate-push b (y ∷ ys) x =
-    let e : b + 1 + length ys ≡ b + suc (length ys) = omega arith in
-    ap (λ ps. (b, y) ∷ ps) (enumerate-push (b + 1) ys x ∙ ap (λ n. enumerate_from (b + 1) ys ++ (n, x) ∷ []) e)
 
 with-added : (bs : List (BlockKey × List ℕ)) (key : BlockKey) (k : ℕ) → added same_key bs key k ≡ with_place bs key k
 with-added [] key k = refl

@@ -5,6 +5,7 @@ use Rattle.std.specs.Cmp.{IsEquivalence}
 use Rattle.std.specs.List.{AllZip, enumerate_from}
 use Rattle.std.proofs.Math.ListN.{length-map}
 use Rattle.std.proofs.Math.Seq.{length-take-le}
+use Rattle.std.proofs.lemmas.Simd.{map-map}
 use Rattle.driver_assembly.specs.declared.rendered.Rendered.{Rendered}
 use Rattle.rounds_grouping.specs.Collapsed.{collapsed_finally}
 use Rattle.rounds_grouping.proofs.ReadBack.{all-read-back}
@@ -29,7 +30,6 @@ use Rattle.driver_entries.specs.Entries.{bibliography_order, distinct, is_in, nu
 use Rattle.driver_entries.specs.Table.{table_of}
 use Rattle.driver_entries.proofs.Distinct.{is_in-distinct}
 use Rattle.driver_entries.proofs.Once.{holds_each_once, length-bibliography_order, without_gaps}
-use Rattle.driver_entries.proofs.Placed.{map-map}
 use Rattle.rounds_grouping.specs.Blocks.{grouped}
 use Rattle.rounds_grouping.proofs.FinalOrders.{grouped-ordered}
 use Rattle.driver_passes.specs.Renders.{CiteRender}

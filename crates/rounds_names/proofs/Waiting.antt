@@ -9,7 +9,7 @@ use Rattle.std.proofs.lemmas.Bool.{or_parts}
 use Rattle.value_styles.specs.declared.style.DisambiguationRule.{DisambiguationRule}
 use Rattle.rounds_names.specs.Classes.{first_step, is_alone, same_rule, step_after, waits_for_step}
 use Rattle.rounds_names.specs.declared.named_cite.NamedCite.{NamedCite}
-use Rattle.rounds_names.proofs.Telling.{range-more}
+use Rattle.list_lemmas.proofs.Members.{range-more}
 use Rattle.rounds_names.proofs.Zipped.{map-same, twice, zip-mapped, zip-seconds}
 
 -- a step before, one among the names so far, and one at the next name

@@ -10,10 +10,6 @@ use Rattle.driver_lookup.specs.declared.state.DisambiguateState.TheVariants.{Yea
 use Rattle.rounds_runs.specs.RoundMarks.{greatest_state}
 
 module _ {X : Type 0} where
-  pub any-map : {Y : Type 0} (p : Y → Bool) (f : X → Y) (xs : List X) → list_any p (map f xs) ≡ list_any (λ x. p (f x)) xs
-  any-map p f [] = refl
-  any-map p f (x ∷ xs) = ap (λ b. p (f x) || b) (any-map p f xs)
-
   -- none of a list passes it
   pub none-in : (p : X → Bool) (xs : List X) → list_any p xs ≡ false → All (λ x. p x ≡ false) xs
   none-in p [] h = All-nil (λ x. p x ≡ false)

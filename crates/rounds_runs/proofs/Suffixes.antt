@@ -4,6 +4,7 @@ use Rattle.std.specs.Prelude.{All, AllPairs, Any, Contains, unwrap_or}
 use Rattle.std.specs.List.{AllAdjacentBelow, enumerate_from, list_any}
 use Rattle.std.specs.Option.{option_or}
 use Rattle.std.proofs.lemmas.List.Elements.{All-cons, All-contains, All-contains_itself, All-filter, All-map, All-nil, All-tail, All-weaker}
+use Rattle.list_lemmas.proofs.Members.{any-map}
 use Rattle.rounds_ambiguity.specs.Ambiguity.{ambiguous_groups}
 use Rattle.rounds_ambiguity.specs.MarkLaws.{HaveNoSuffix, SuffixesCountEntries}
 use Rattle.rounds_ambiguity.specs.Members.{Member, entry_of, members, state_of}
@@ -28,7 +29,7 @@ use Rattle.rounds_runs.proofs.GoneOn.{Alike, AreMarkLaws, GoesIn, all-alike, ali
 use Rattle.rounds_runs.proofs.Greatest.{one-of-marks}
 use Rattle.rounds_runs.proofs.Kept.{all-chosen, all-distinct}
 use Rattle.rounds_runs.proofs.MarkKinds.{Named, names-named}
-use Rattle.rounds_runs.proofs.Numbered.{IsBelow, all-numbered, any-map, none-in, numbered-map, top-greatest}
+use Rattle.rounds_runs.proofs.Numbered.{IsBelow, all-numbered, none-in, numbered-map, top-greatest}
 use Rattle.rounds_runs.proofs.Runs.{all-passed, run-neighbours, run-pairs}
 use Rattle.rounds_runs.proofs.SuffixGroups.{IsOfGroup, are-ambiguous, marks-of-groups, own-suffixes}
 use Rattle.rounds_runs.proofs.SuffixWalk.{IsSuffixed, full-walked, one-group, three-walked}

@@ -7,6 +7,7 @@ use Rattle.std.proofs.lemmas.Bool.{or_right}
 use Rattle.std.proofs.lemmas.List.Elements.{All-head, All-tail}
 use Rattle.std.proofs.lemmas.List.Folds.{Any-from_list_any, list_any-from_Any}
 use Rattle.std.proofs.lemmas.Option.{slice_get-get_or, slice_get-map}
+use Rattle.std.proofs.lemmas.Simd.{map-map}
 use Rattle.rounds_ambiguity.specs.Members.{Member, entry_of, members}
 use Rattle.driver_assembly.specs.declared.rendered.Rendered.{Rendered}
 use Rattle.driver_writers.specs.Writing.{Writing}
@@ -16,7 +17,6 @@ use Rattle.csl_driver.specs.declared.account.Account.{Account}
 use Rattle.driver_entries.specs.Entries.{distinct, is_in}
 use Rattle.driver_entries.specs.Laws.{NoTwoEqual}
 use Rattle.driver_entries.proofs.Distinct.{is_in-distinct}
-use Rattle.driver_entries.proofs.Placed.{map-map}
 use Rattle.driver_lookup.specs.States.{year_suffix}
 use Rattle.driver_lookup.specs.declared.state.DisambiguateState.{DisambiguateState}
 use Rattle.driver_lookup.specs.declared.state.DisambiguateState.TheVariants.{YearSuffix}

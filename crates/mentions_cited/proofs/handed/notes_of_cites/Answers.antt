@@ -1,10 +1,10 @@
 use Rattle.std.proofs.Common.{◌≡◌, List, ap, length, map, sym, ◌∙◌}
 use Rattle.std.proofs.lemmas.Result.{IfOk-weaker}
+use Rattle.std.proofs.lemmas.Simd.{map-map}
 use Rattle.driver_entries.specs.Entries.{distinct}
 use Rattle.driver_entries.specs.Listed.{IsListingOf}
 use Rattle.driver_entries.specs.ListingView.{listing_view}
 use Rattle.driver_entries.specs.TableView.{table_view}
-use Rattle.driver_entries.proofs.Placed.{map-map}
 use Rattle.mentions_notes.specs.Notes.{all_notes}
 use Rattle.driver_passes.specs.Request.{cited}
 use Rattle.driver_passes.specs.RequestView.{requests_view}
