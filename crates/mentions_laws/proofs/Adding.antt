@@ -27,7 +27,8 @@ use Rattle.mentions_groups.specs.declared.written.Written.{Written}
 use Rattle.mentions_tables.specs.Tables.{named, third_table}
 use Rattle.mentions_tables.specs.declared.subject.Subject.{Subject}
 use Rattle.mentions_table_laws.proofs.Appearing.{base-written, form-at, forms-are, greatest-within, raised-left}
-use Rattle.mentions_table_laws.proofs.Listing.{all-every, zip-map}
+use Rattle.list_lemmas.proofs.Members.{zip-map}
+use Rattle.mentions_table_laws.proofs.Listing.{all-every}
 use Rattle.mentions_table_laws.proofs.Settled.{settled, third-table}
 use Rattle.mentions_laws.specs.Adding.{AddsAsStylesSay, HasForm, NamesAreAsStylesSay, group_adds_given_names, group_adds_names}
 

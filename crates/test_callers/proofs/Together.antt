@@ -25,7 +25,7 @@ use Rattle.rounds_runs.specs.Rounds.{StateTable, no_states, told_by}
 use Rattle.rounds_runs.specs.RunLaws.{GetsSuffixInGroup, GetsSuffixes, shown_at}
 use Rattle.rounds_runs.specs.Tables.{last_table}
 use Rattle.rounds_runs.specs.declared.mode.RoundMode.{RoundMode}
-use Rattle.rounds_runs.proofs.Numbered.{any-map}
+use Rattle.list_lemmas.proofs.Members.{any-map}
 use Rattle.test_callers.specs.Clients.{GotLetters, GotSuffix, firsts, table_of_round}
 
 some-inj : {X : Type 0} (x y : X) → Some x ≡ Some y → x ≡ y
