@@ -213,6 +213,7 @@ CODE = {
     'et-al-use-last': 'cite_names::shown cite_names::list',
     'subsequent-author-substitute': 'mentions_authors::repeated mentions_authors::substitution',
     'year-suffix-delimiter': 'mentions_ranges::suffixes',
+    'variable=locator': 'cite_walk::locators cite_locale::locators',
 }
 CODE_IN_PORT = {'disambiguate': 'rounds_ambiguity::choose'}
 
@@ -473,7 +474,7 @@ def variable_rows():
             there = in_port(r'\b%s\b' % known) if known else []
             pattern = r'\bvariable="(?:[^"]* )?%s[ "]' % re.escape(name)
             yield '| `%s` | %s | `%s` | %s | %s | %s |' % (
-                name, kind, ANY[kind], shown(in_product(r'\b%s\b' % variant)), held_by(name, pattern, name),
+                name, kind, ANY[kind], shown(working_on('variable=' + name, r'\b%s\b' % variant)), held_by(name, pattern, name),
                 shown(there or ([ANY_IN_PORT[kind]] if known else [])))
 
 
