@@ -4,9 +4,10 @@ variable of CSL 1.0.2 the modules that honour it.
 
 The names come from the crates: what each element may have from style_elements, the rest from
 style_file. A module honours a name where its code has the field or the enum's variant that
-stands for it; TOKENS says which where the field isn't called like the attribute. DEFINITIONS names
-the definitions of what the driver decides; any other row has the first case of tests/writer whose
-style has the name. tests/docs/run.py holds the page to be what this prints."""
+stands for it; TOKENS says which where the field isn't called like the attribute, and CODE which
+modules do the work under another word. DEFINITIONS names the definitions of what is proved. A case
+of tests/writer has the name in its style; one whose rule names it goes first. tests/docs/run.py
+checks that the page is what this prints."""
 import functools
 import glob
 import os
@@ -141,7 +142,7 @@ TOKENS = {
     'group@delimiter': (r'\bgroup\.delimiter\b', r'\bdelimiter\b'),
 }
 
-# The definitions of what the driver decides in the mode `csl`, and of what the port does.
+# The definitions of what the driver decides in the mode `csl`, and of what is proved of the writer.
 DEFINITIONS = {
     'near-note-distance': 'mentions_notes/specs/Notes',
     'disambiguate-add-names': 'mentions_names/specs/Reaches mentions_names/specs/Told',
@@ -174,7 +175,14 @@ DEFINITIONS = {
        for it in ('complete-all', 'complete-each', 'partial-each', 'partial-first')},
     **{'page-range-format' + it: 'cite_texts/specs/Pages'
        for it in ('', '=chicago', '=chicago-15', '=chicago-16', '=expanded', '=minimal', '=minimal-two')},
-    'et-al-use-last': 'cite_names/specs/Cuts',
+    'et-al-min': 'cite_names/specs/EtAl cite_names/specs/Cuts',
+    'et-al-use-first': 'cite_names/specs/EtAl cite_names/specs/Cuts',
+    'et-al-use-last': 'cite_names/specs/EtAl cite_names/specs/Cuts',
+    'et-al-subsequent-min': 'cite_names/specs/Cuts',
+    'et-al-subsequent-use-first': 'cite_names/specs/Cuts',
+    'names-min': 'cite_names/specs/Cuts',
+    'names-use-first': 'cite_names/specs/Cuts',
+    'names-use-last': 'cite_names/specs/Cuts',
     'year-suffix': 'mentions_groups/specs/Suffixes',
     'citation-number': 'csl_driver/specs/CslAnswer',
     'first-reference-note-number': 'mentions_notes/specs/Notes',
@@ -182,18 +190,55 @@ DEFINITIONS = {
 
 # Modules that do the work of a name, and have another word for it.
 CODE = {
+    'after-collapse-delimiter': 'mentions_blocks::years mentions_ranges::numbers',
+    'cite-group-delimiter': 'mentions_arranging::order mentions_blocks::blocks',
+    'disambiguate': 'mentions_tables::chosen cite_walk::conditions',
     'disambiguate-add-givenname': 'mentions_names::reach',
     'disambiguate-add-names': 'mentions_names::reach',
+    'disambiguate-add-year-suffix': 'mentions_groups::suffixes',
+    'layout@delimiter': 'driver_assembly::citation',
+    'position=first': 'mentions_notes::notes',
+    'position=subsequent': 'mentions_notes::notes',
+    'position=ibid': 'mentions_notes::repeats',
+    'position=ibid-with-locator': 'mentions_notes::repeats',
     'position=near-note': 'mentions_notes::notes',
     'position=far-note': 'mentions_notes::notes',
     'collapse=citation-number': 'mentions_ranges::numbers',
+    'collapse=year': 'mentions_blocks::years',
     'collapse=year-suffix': 'mentions_ranges::suffixes',
     'collapse=year-suffix-ranged': 'mentions_ranges::suffixes',
     'demote-non-dropping-particle': 'cite_names::parts',
-    'et-al-use-last': 'cite_names::forms',
+    'et-al-min': 'cite_names::shown',
+    'et-al-use-first': 'cite_names::shown',
+    'et-al-use-last': 'cite_names::shown cite_names::list',
+    'subsequent-author-substitute': 'mentions_authors::repeated mentions_authors::substitution',
+    'year-suffix-delimiter': 'mentions_ranges::suffixes',
+    'variable=locator': 'cite_walk::locators cite_locale::locators',
+}
+CODE_IN_PORT = {'disambiguate': 'rounds_ambiguity::choose'}
+
+# Cases that hold a name, though their rules have another word for it.
+CASE_OF = {
+    'date-part@name': 'an own date',
+    'date-part@name=month': 'an own date',
+    'date-part@name=year': 'an own date',
+    'macro@name': 'an empty macro',
+    'plural': 'plural of pages',
+    'plural=contextual': 'plural of pages',
+    'text@value': 'words of the style',
+    'term@form': 'another form of a term',
+    'term@form=short': 'another form of a term',
+    'delimiter-precedes-last=contextual': 'two names',
 }
 
-# The attributes that name the values of these tables of style_elements, each of these elements.
+# Where the tables of values stand, and those of them that TABLE_OF names.
+TABLES = {
+    'crates/style_elements/src/tables.rt': None,
+    'crates/style_file/src/term.rt': ('TERM_FORMS', 'GENDERS', 'ORDINAL_MATCHES'),
+    'crates/style_reader/src/date.rt': ('PART_NAMES',),
+    'crates/style_reader/src/names.rt': ('PART_NAMES',),
+}
+# The attributes that name the values of these tables, each of these elements.
 TABLE_OF = {
     'FONT_STYLES': 'font-style', 'FONT_VARIANTS': 'font-variant', 'FONT_WEIGHTS': 'font-weight',
     'TEXT_DECORATIONS': 'text-decoration', 'VERTICAL_ALIGNS': 'vertical-align', 'DISPLAYS': 'display', 'TEXT_CASES': 'text-case',
@@ -204,10 +249,15 @@ TABLE_OF = {
     'SORT_DIRECTIONS': 'sort', 'COLLAPSES': 'collapse', 'GIVEN_NAME_RULES': 'givenname-disambiguation-rule',
     'SECOND_FIELD_ALIGNS': 'second-field-align', 'SUBSTITUTE_RULES': 'subsequent-author-substitute-rule', 'CLASSES': 'class',
     'PARTICLE_DEMOTIONS': 'demote-non-dropping-particle', 'PAGE_RANGE_FORMATS': 'page-range-format',
+    'TERM_FORMS': 'term@form', 'GENDERS': 'gender', 'ORDINAL_MATCHES': 'term@match',
+    'date.rt PART_NAMES': 'date-part@name', 'names.rt PART_NAMES': 'name-part@name',
 }
 # What else the values of a table are of.
 OF = {'DAY_FORMS': ', a day', 'MONTH_FORMS': ', a month', 'YEAR_FORMS': ', a year',
-      'DELIMITER_PRECEDES': ', `delimiter-precedes-et-al`'}
+      'DELIMITER_PRECEDES': ', `delimiter-precedes-et-al`', 'GENDERS': ', `gender-form`',
+      'TERM_FORMS': ', of `label`, and of `text` with a `term`'}
+# Tables whose values are looked up, and have no variants of their own in the writer.
+LOOKED_UP = ('TERM_FORMS', 'GENDERS', 'PART_NAMES')
 # Values of these tables say what a style is, and change nothing that is written.
 ONLY_READ = ('LINK_RELATIONS', 'CITATION_FORMATS', 'FIELDS')
 
@@ -255,7 +305,7 @@ def in_product(pattern):
 def working_on(key, pattern):
     """The modules of the product that work on a name: those that CODE says go first."""
     first = CODE.get(key, '').split()
-    if not all(it in code_of(it.split('::')[0]) for it in first):
+    if not all(it in code_of(it.split('::')[0]) for it in first + CODE_IN_PORT.get(key, '').split()):
         sys.exit('map.py: CODE names modules of %s that are not there' % key)
     return [*first, *(it for it in in_product(pattern) if it not in first)][:MOST]
 
@@ -265,13 +315,14 @@ def in_writer(pattern):
     return modules(tuple(it for it in PRODUCT if it.startswith('cite_')), pattern)
 
 
-def in_port(pattern):
-    return modules(tuple(PORT), pattern)
+def in_port(pattern, key=''):
+    first = CODE_IN_PORT.get(key, '').split()
+    return [*first, *(it for it in modules(tuple(PORT), pattern) if it not in first)][:MOST]
 
 
 def rows_of(path, table):
     """The rows of a table of names: each name, and the variant that stands for it."""
-    found = re.search(r'pub const %s: [^=]*= &\[(.*?)\];' % table, text_of(path), re.DOTALL)
+    found = re.search(r'\bconst %s: [^=]*= &\[(.*?)\];' % table, text_of(path), re.DOTALL)
     return re.findall(r'\(\s*"([^"]+)",\s*(\w+::\w+)[^)]*\)', found.group(1))
 
 
@@ -301,15 +352,30 @@ def shown(items):
     return ', '.join('`%s`' % it for it in items) or '–'
 
 
-def case_with(pattern, word):
+def is_named(rule, words):
+    """Whether a rule has one of these words in backquotes, or is that of the section of CSL that is called like one."""
+    sections = rule.split(':')[0].lower().split(', ')
+    spans = re.findall(r'`([^`]+)`', rule)
+    return any(it in sections or any(re.search(r'(?<![\w-])%s(?![\w-])' % re.escape(it), span) for span in spans) for it in words)
+
+
+def is_mentioned(case, words):
+    """Whether a case or what its rule says has one of these words."""
+    said = '%s %s' % (case.name, case.rule.split(':', 1)[-1])
+    return any(re.search(r'(?<![\w-])%s(?![\w-])' % re.escape(it), said) for it in words)
+
+
+def case_with(key, pattern, words):
     """A case of tests/writer whose style has this: if there is one, one whose rule names it; of several the shortest."""
+    if key in CASE_OF:
+        return next(it.name for it in CASES if it.name == CASE_OF[key])
     found = [it for it in CASES if re.search(pattern, it.style)]
-    return min(found, key=lambda it: (not re.search(r'\b%s\b' % re.escape(word), it.rule), len(it.style))).name if found else None
+    return min(found, key=lambda it: (not is_named(it.rule, words), not is_mentioned(it, words), len(it.style))).name if found else None
 
 
-def held_by(key, pattern, word):
-    """What a name's rule is: its definitions, or else a case that holds it."""
-    case = case_with(pattern, word)
+def held_by(key, pattern, *words):
+    """What a name's rule is: its definitions, and a case that holds it; or else a file that has it."""
+    case = case_with(key, pattern, words)
     held = [shown([it + '.antt']) for it in DEFINITIONS.get(key, '').split()] + ['“%s”' % case] * bool(case)
     if held:
         return ', '.join(held)
@@ -357,7 +423,7 @@ def attribute_rows():
         of = 'any' if len(elements) > 7 else shown(elements)
         tag = r'<(?:%s)\b[^>]*\s%s=' % ('|'.join(elements), attribute)
         yield '| `%s` | %s | %s | %s | %s | %s |' % (attribute, of, shown(readers(attribute, elements)), shown(working_on(key, product)),
-                                                    held_by(key, tag, attribute), shown(in_port(port)))
+                                                    held_by(key, tag, attribute), shown(in_port(port, key)))
 
 
 def port_variants(value, kind):
@@ -368,24 +434,30 @@ def port_variants(value, kind):
     return [name for name, enum in found if enum == alike.get(kind, kind)]
 
 
+def tables_of_values():
+    """Each table of values, with the file in which it stands."""
+    for path, names in TABLES.items():
+        for name in names or re.findall(r'^pub const (\w+):', text_of(path), re.MULTILINE):
+            if name not in ONLY_READ:
+                yield path, name
+
+
 def value_rows():
-    text = text_of('crates/style_elements/src/tables.rt')
     yield '| Value | Of | Honoured by | Held by | In the port |'
-    for table in re.findall(r'^pub const (\w+):', text, re.MULTILINE):
-        if table in ONLY_READ:
-            continue
-        key = TABLE_OF[table]
+    for path, table in tables_of_values():
+        key = TABLE_OF.get(table) or TABLE_OF['%s %s' % (os.path.basename(path), table)]
         attribute = key.split('@')[-1]
-        tag = r'%s\b%s="(?:[^"]* )?%%s[ "]' % (r'<%s\b[^>]*' % key.split('@')[0] if '@' in key else '', attribute)
+        elements = 'term|label|text' if table == 'TERM_FORMS' else key.split('@')[0]
+        tag = r'%s\b%s="(?:[^"]* )?%%s[ "]' % (r'<(?:%s)\b[^>]*' % elements if '@' in key else '', attribute)
         of = '`%s`' % attribute + (' of `%s`' % key.split('@')[0] if '@' in key else '') + OF.get(table, '')
-        for value, variant in rows_of('crates/style_elements/src/tables.rt', table):
+        for value, variant in rows_of(path, table):
+            own = f'{key}={value}' if table in LOOKED_UP else f'{attribute}={value}'
             port = port_variants(value, variant.split('::')[0])
             of_driver = [it for it in port if it.split('::')[1] == variant.split('::')[1]]
-            product = '|'.join(r'\b%s\b' % it for it in {variant, *of_driver})
+            product = None if table in LOOKED_UP else '|'.join(r'\b%s\b' % it for it in {variant, *of_driver})
             yield '| `%s` | %s | %s | %s | %s |' % (
-                value, of, shown(working_on(f'{attribute}={value}', product)
-                                 or in_product((TOKENS.get(key) or default_tokens(attribute))[0])),
-                held_by(f'{attribute}={value}', tag % value, value),
+                value, of, shown(working_on(own, product) or in_product((TOKENS.get(key) or default_tokens(attribute))[0])),
+                held_by(own, tag % value, f'{attribute}="{value}"', value),
                 shown(in_port('|'.join(r'\b%s\b' % it for it in port) or None)))
 
 
@@ -402,7 +474,7 @@ def variable_rows():
             there = in_port(r'\b%s\b' % known) if known else []
             pattern = r'\bvariable="(?:[^"]* )?%s[ "]' % re.escape(name)
             yield '| `%s` | %s | `%s` | %s | %s | %s |' % (
-                name, kind, ANY[kind], shown(in_product(r'\b%s\b' % variant)), held_by(name, pattern, name),
+                name, kind, ANY[kind], shown(working_on('variable=' + name, r'\b%s\b' % variant)), held_by(name, pattern, name),
                 shown(there or ([ANY_IN_PORT[kind]] if known else [])))
 
 
@@ -440,14 +512,15 @@ def term_rows():
 HEAD = '''# The map
 
 Each name of CSL 1.0.2, and where it is honoured. `python3 tests/docs/map.py --write` makes this page
-from the crates, and the tests hold it to be what that makes.
+from the crates, and a test checks that the page is what the script makes.
 
 Two writers stand under one driver (ARCHITECTURE.md). The *product* writes style files, with the
 rules of the mode `csl`; the *port* writes layouts in JSON, in the modes `three` and `full`. Module
 `c::m` is `crates/c/src/m.rt`, and `c/specs/D.antt` is in `crates/`. A row names at most three
-modules, those that mention the name most often; they may call the one that does the work. *Held by*
-has the definition that the driver keeps to, and a case of `tests/writer/cases.py` in quotes; or else
-a file that has the name (one of `tests/styles/documents` holds only that it is read). A dash means
+modules: first those that do the work under another word, then those that mention the name most
+often. *Held by* has the definitions that are proved to hold, and in quotes a case of
+`tests/writer/cases.py` whose style has the name; one whose rule names it goes before others. Where
+there is neither it has a file with the name, which holds only that the name is read. A dash means
 that there is none: a name that the port lacks is no part of its format.
 '''
 
@@ -463,8 +536,8 @@ finds its parent by them. They change nothing that is written. The same is so of
 '''
 
 
-VARIABLES_HEAD = '''Styles of `tests/csl_names.py` have each of them in `text`, `number`, `label`, `date`, `names` and `choose`, and
-`tests/styles/run.py` holds what is read of them. *Held by* has what holds more than that.
+VARIABLES_HEAD = '''Styles of `tests/csl_names.py` have each of them in `text`, `number`, `label`, `date`, `names` and
+`choose`, and `tests/styles/run.py` holds what is read of them. *Held by* has what holds more.
 '''
 
 
@@ -489,11 +562,12 @@ def page():
 
 
 def main():
+    text = page()
     if sys.argv[1:] == ['--write']:
         with open(f'{ROOT}/{PAGE}', 'w', encoding='utf-8') as file:
-            file.write(page())
+            file.write(text)
     else:
-        sys.stdout.write(page())
+        sys.stdout.write(text)
     return 0
 
 

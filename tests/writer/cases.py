@@ -528,7 +528,7 @@ CASES = [
          [{'citationID': 'x', 'citationItems': cites('b', 'a'), 'properties': {'unsorted': True}},
           {'citationID': 'y', 'citationItems': cites('b', 'a'), 'properties': {'unsorted': False, 'noteIndex': 0}}],
          sort='<sort><key variable="author"/></sort>', affixes='delimiter="; "'),
-    cite('cites told apart by a second key', 'Sorting: keys in turn; equal cites stay in order',
+    cite('cites in order by a second key', 'Sorting: keys in turn; equal cites stay in order',
          TEXT, [person('a', 'Bee', 'B', 2001, title='X'), person('b', 'Bee', 'B', 1999, title='Y'),
                 person('c', 'Ape', 'A', 2005, title='Z'), person('d', 'Bee', 'B', 2001, title='W')],
          ['Z; Y; X', 'Y; W', 'W; X', 'X; W'],
