@@ -1,16 +1,19 @@
 #!/usr/bin/env python3
-"""published.py PROGRAM [COUNT..]: citations in published styles by the program gamhilon, and by
-pandoc --citeproc.
+"""published.py [--instructions] PROGRAM [COUNT..]: citations in published styles by the program
+gamhilon, and by pandoc --citeproc.
 
 PROGRAM is crates/gamhilon/out/gamhilon. For each of three styles and each count of citations (1600
-and 6400 where none is told), prints the processor time and the memory of the fastest of five runs
-of each that writes all citations as text, and how much longer the program takes for more citations.
+and 6400 where none is given), prints the processor time and the memory of the fastest of five runs
+of each that writes all citations as text, and of each that writes the bibliography too; and how
+much longer the program takes for more citations. With --instructions it prints the millions of
+instructions that the program executes, without pandoc: machines differ less in these.
 There are half as many works as citations, of families that share authors and years, so that cites
-have to be told apart; each fourth citation has two cites, and each third a locator. Needs pandoc
-and Debian's citation-style-language-styles.
+have to be disambiguated; each fourth citation has two cites, and each third a locator. Needs pandoc
+(valgrind with --instructions) and Debian's citation-style-language-styles.
 """
 import json
 import os
+import re
 import subprocess
 import sys
 import tempfile
@@ -78,27 +81,70 @@ def write(folder, count):
         file.write('\n\n'.join(map(markdown, citations)))
 
 
-def main(words):
-    program, counts = os.path.abspath(words[0]), [int(it) for it in words[1:]] or [1600, 6400]
-    print('| Style | Citations | gamhilon | pandoc | its time, times ours | gamhilon | pandoc | its memory, times ours |')
-    print('|---|---|---|---|---|---|---|---|')
+def instructions(words, folder):
+    """The instructions that a command executes."""
+    command = ['valgrind', '--tool=callgrind', '--callgrind-out-file=/dev/null', *words]
+    done = subprocess.run(command, cwd=folder, stdout=subprocess.DEVNULL, stderr=subprocess.PIPE, text=True)
+    if done.returncode:
+        sys.exit(f'published.py: {" ".join(words)} ended with status {done.returncode}')
+    return int(re.search(r'Collected : (\d+)', done.stderr)[1])
+
+
+def by_program(program, style, has_list):
+    """The command of the program."""
+    both = ['--with-bibliography'] if has_list else []
+    return [program, 'cite', *both, '--style', style, 'references.json', 'citations.json']
+
+
+def by_pandoc(style, has_list):
+    """The command of pandoc."""
+    alone = [] if has_list else ['-M', 'suppress-bibliography=true']
+    return ['pandoc', '--citeproc', '--csl', style, '--bibliography', 'references.json', '-t', 'plain', *alone, 'page.md']
+
+
+def times(program, style, has_list, folder, before):
+    """The cells of the times and of the memory of both, and the time of the program."""
+    ours = measured(by_program(program, style, has_list), folder)
+    theirs = measured(by_pandoc(style, has_list), folder)
+    growth = f' ({ours[0] / before:.1f} times)' if before else ''
+    return [f'{ours[0]:.2f} s{growth}', f'{theirs[0]:.2f} s', f'{theirs[0] / ours[0]:.1f}',
+            f'{ours[1] / 1e6:.0f} MB', f'{theirs[1] / 1e6:.0f} MB', f'{theirs[1] / ours[1]:.1f}'], ours[0]
+
+
+def counts_of(program, style, has_list, folder, before):
+    """The cell of the instructions of the program, and these."""
+    ours = instructions(by_program(program, style, has_list), folder)
+    growth = f' ({ours / before:.2f} times)' if before else ''
+    return [f'{ours / 1e6:.0f} million{growth}'], ours
+
+
+def rows(program, counts, measure):
+    """Prints a row for each style, for citations alone and with the bibliography, and for each
+    count."""
     for name in STYLES:
-        style, before = f'{FOLDER}/{name}.csl', None
-        for count in counts:
-            with tempfile.TemporaryDirectory() as folder:
-                write(folder, count)
-                ours = measured([program, 'cite', '--style', style, 'references.json', 'citations.json'], folder)
-                theirs = measured(['pandoc', '--citeproc', '--csl', style, '--bibliography', 'references.json', '-t', 'plain',
-                                   '-M', 'suppress-bibliography=true', 'page.md'], folder)
-            cells = [name, str(count), f'{ours[0]:.2f} s', f'{theirs[0]:.2f} s', f'{theirs[0] / ours[0]:.1f}',
-                     f'{ours[1] / 1e6:.0f} MB', f'{theirs[1] / 1e6:.0f} MB', f'{theirs[1] / ours[1]:.1f}']
-            if before:
-                cells[2] += f' ({ours[0] / before:.1f} times)'
-            before = ours[0]
-            print(f'| {" | ".join(cells)} |', flush=True)
+        for has_list in (False, True):
+            before = None
+            for count in counts:
+                with tempfile.TemporaryDirectory() as folder:
+                    write(folder, count)
+                    cells, before = measure(program, f'{FOLDER}/{name}.csl', has_list, folder, before)
+                cells = [name, 'both' if has_list else 'citations', str(count), *cells]
+                print(f'| {" | ".join(cells)} |', flush=True)
+
+
+def main(words):
+    counts_instructions = words[:1] == ['--instructions']
+    program, *counts = words[1:] if counts_instructions else words
+    measure = counts_of if counts_instructions else times
+    heads = ['gamhilon'] if counts_instructions else [
+        'gamhilon', 'pandoc', 'its time, times ours', 'gamhilon', 'pandoc', 'its memory, times ours']
+    heads = ['Style', 'What', 'Citations', *heads]
+    print(f'| {" | ".join(heads)} |')
+    print('|' + '---|' * len(heads))
+    rows(os.path.abspath(program), [int(it) for it in counts] or [1600, 6400], measure)
 
 
 if __name__ == '__main__':
-    if len(sys.argv) < 2:
+    if not sys.argv[1:] or sys.argv[1:] == ['--instructions']:
         sys.exit(__doc__)
     main(sys.argv[1:])
