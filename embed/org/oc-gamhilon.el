@@ -338,9 +338,10 @@ sentence. Such authors come last: a note that follows one is no `Ibid.'."
   (dolist (citation (org-cite-list-citations info))
     (let ((author (org-element-property :gamhilon-author citation)))
       (when author
-        (org-element-set-contents
-         author (org-cite-gamhilon--exported
-                 (org-cite-gamhilon--varied (cadr (assq author written)) citation info) info))))))
+        (let ((text (or (cadr (assq author written)) "")))
+          (org-element-set-contents
+           author (org-cite-gamhilon--exported
+                   (org-cite-gamhilon--varied text citation info) info)))))))
 
 (defun org-cite-gamhilon--answer (info)
   "What is written of the citations of INFO, as an alist, and their requests.

