@@ -227,6 +227,8 @@ def _listed(nocite: Sequence[str]) -> List[csl.Citation]:
 
 def _all_places(parts: Sequence[AskedPart]) -> Sequence[int]:
     """The places of citations in parts that follow each other."""
+    if all(isinstance(own, range) for _, own in parts):
+        return range(sum(len(own) for _, own in parts))
     places: List[int] = []
     begin = 0
     for part, own in parts:
@@ -247,8 +249,9 @@ def _answered(rendered: csl.Rendered, whole: Sequence[Citation], are_named: Sequ
         if rendered.warnings else {}
     warnings = [_of_page(warned, numbers) for warned in rendered.warnings
                 if warned.citation is None or warned.citation in numbers]
-    return Answered([written[place] for place in places], with_authors,
-                    rendered.answer.bibliography, warnings)
+    own = written[:len(places)] if isinstance(places, range) \
+        else [written[place] for place in places]
+    return Answered(own, with_authors, rendered.answer.bibliography, warnings)
 
 
 def _of_page(warned: csl.Warned, numbers: Dict[int, int]) -> csl.Warned:
