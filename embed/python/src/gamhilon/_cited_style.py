@@ -11,7 +11,7 @@ from ._locators import words_of
 from ._pandoc_marks import without_marks
 from .answer import Bibliography, Citation, Tree
 from .csl.abbreviations import abbreviations_of
-from .csl.cites import CitationPart, CitationParts, CitationReader, part_number
+from .csl.cites import CitationPart, CitationParts, CitationReader, is_settled, part_number
 from .csl.kept import Kept
 from .csl.rendering import Renderer, read_entries
 from .csl.style import load
@@ -90,9 +90,9 @@ class Asking:
         state = follows and follows.state(self.citations)
         if keeps_authors not in self._made or self._made[keeps_authors][0] != state:
             asked, places = _asked_of(self.citations, keeps_authors, follows)
-            is_settled = all([citation.is_settled for citation in asked])
+            are_settled = all([is_settled(cite) for citation in asked for cite in citation.cites])
             self._made[keeps_authors] = state, AskedPart(
-                CitationPart(asked, self.number), places) if is_settled else None
+                CitationPart(asked, self.number), places) if are_settled else None
         return self._made[keeps_authors][1]
 
 
@@ -140,15 +140,15 @@ class CitedStyle:
 
     def answer_pages(self, pages: Sequence[Asking], nocite: Sequence[str]) -> Answered:
         """The same of the citations of pages. Those that have changed since are asked anew."""
-        made = [self._parts(pages, keeps_authors) for keeps_authors in (False, True)]
+        are_named = [is_named for page in pages for is_named in page.are_named]
+        asked = self._parts(pages, False)
+        again = self._parts(pages, True) if True in are_named else asked
         listed = CitationPart(_listed(nocite), self._listed_number)
-        asked, again = made
         if asked is None or again is None \
                 or not all(citation.is_settled for citation in listed.citations):
             return self.answer([citation for page in pages for citation in page.citations], nocite)
         rendered = self._rendering().render(
             CitationParts([*(one.part for one in asked), listed]))
-        are_named = [is_named for page in pages for is_named in page.are_named]
         whole: Sequence[Citation] = ()
         if True in are_named:
             whole = self._rendering().citations(

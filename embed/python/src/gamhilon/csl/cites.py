@@ -175,8 +175,13 @@ class CitationPart:
     @cached_property
     def keyed_json(self) -> bytes:
         """The same with a key for each citation, which none of a part of another number has."""
-        return _bytes_of([citation.keyed_json(f'part{self.number}.{place}')
-                          for place, citation in enumerate(self.citations)])
+        return _bytes_of([citation.keyed_json(key)
+                          for key, citation in zip(self.keys, self.citations)])
+
+    @cached_property
+    def keys(self) -> List[str]:
+        """The keys of its citations, in their order."""
+        return [f'{self.number}.{place}' for place in range(len(self.citations))]
 
 
 _numbers = itertools.count()
@@ -196,7 +201,7 @@ class CitationParts(Sequence[Citation]):
     """The citations of a document, in parts. Each part is made once for many documents."""
 
     def __init__(self, parts: Sequence[CitationPart]) -> None:
-        self._parts = parts
+        self.parts = parts
         self._citations = [citation for part in parts for citation in part.citations]
 
     def __len__(self) -> int:
@@ -213,17 +218,17 @@ class CitationParts(Sequence[Citation]):
 
     def json(self) -> bytes:
         """The JSON of the list of these citations."""
-        return b'[' + b', '.join([part.json for part in self._parts if part.citations]) + b']'
+        return b'[' + b', '.join([part.json for part in self.parts if part.citations]) + b']'
 
     def keyed_json(self) -> bytes:
         """The same with a key for each citation."""
-        texts = [part.keyed_json for part in self._parts if part.citations]
+        texts = [part.keyed_json for part in self.parts if part.citations]
         return b'[' + b', '.join(texts) + b']'
 
     @cached_property
     def ids(self) -> Set[str]:
         """The keys of all cites."""
-        return set().union(*[part.ids for part in self._parts])
+        return set().union(*[part.ids for part in self.parts])
 
 
 def ids_of(citations: Sequence[Citation]) -> Set[str]:
