@@ -87,7 +87,7 @@ class Asking:
         """What the style is asked for, in one of notes behind the note that these follow; None
         where something is odd in that."""
         keeps_authors = keeps_authors and True in self.are_named
-        state = follows and follows.state(self.citations)
+        state = None if follows is None else follows.state(self.citations)
         if keeps_authors not in self._made or self._made[keeps_authors][0] != state:
             asked, places = _asked_of(self.citations, keeps_authors, follows)
             are_settled = all([is_settled(cite) for citation in asked for cite in citation.cites])

@@ -154,11 +154,11 @@ class _Held:
         before, self._parts = self._parts, {}
         found: List[WrittenCitation] = []
         for part in citations.parts:
-            part_before, written = before.get(part.number, (None, []))
-            if part_before is not part or str(part.number) in anew:
-                written = [self._citations[key] for key in part.keys]
-            self._parts[part.number] = part, written
-            found += written
+            known = before.get(part.number)
+            if known is None or known[0] is not part or str(part.number) in anew:
+                known = part, [self._citations[key] for key in part.keys]
+            self._parts[part.number] = known
+            found += known[1]
         return found
 
     def _apply_items(self, said: Mapping[str, Any]) -> None:
