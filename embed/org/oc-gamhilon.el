@@ -305,33 +305,52 @@ It is put into one unless it stands in one, whose number is negative."
            (org-cite-adjust-note citation info)
            (org-export-get-footnote-number (org-cite-wrap-citation citation info) info)))))
 
-(defun org-cite-gamhilon--all-requests (citations notes info)
-  "The requests of each of CITATIONS, in a list, for INFO.
-NOTES is whether the style is one of notes, in which they are put into these."
-  (mapcar (lambda (citation)
-            (let ((kind (org-cite-gamhilon--kind citation info)))
-              (org-cite-gamhilon--requests
-               citation (if (and notes (eq kind 'text)) 'whole kind)
-               (and notes (org-cite-gamhilon--note citation kind info)))))
-          citations))
+(defun org-cite-gamhilon--author-before (citation)
+  "Put what is to show the author of CITATION before it, and give that."
+  (let ((author (org-export-raw-string "")))
+    (org-element-insert-before author citation)
+    (org-element-put-property citation :gamhilon-author author)
+    author))
 
-(defun org-cite-gamhilon--in-order (pairs notes info)
-  "PAIRS of citations and requests in the order in which they are asked for.
-With NOTES, authors in the text of INFO come last: a note that follows one is
-no `Ibid.'."
-  (let ((late (lambda (pair)
-                (and notes (memq (org-cite-gamhilon--kind (car pair) info) '(author nocite))))))
-    (append (seq-remove late pairs) (seq-filter late pairs))))
+(defun org-cite-gamhilon--pairs (citations notes info)
+  "CITATIONS with their requests for INFO, in the order of asking.
+With NOTES they are put into these, and an author in the text stays in the
+sentence. Such authors come last: a note that follows one is no `Ibid.'."
+  (let (pairs late)
+    (dolist (citation citations)
+      (let* ((kind (org-cite-gamhilon--kind citation info))
+             (author (and notes (eq kind 'text) (not (org-cite-inside-footnote-p citation))
+                          (org-cite-gamhilon--author-before citation)))
+             (note (and notes (org-cite-gamhilon--note citation kind info)))
+             (shown (cond (author 'noauthor)
+                          ((and notes (eq kind 'text)) 'whole)
+                          (t kind)))
+             (pair (cons citation (org-cite-gamhilon--requests citation shown note))))
+        (when author
+          (push (cons author (org-cite-gamhilon--requests citation 'author nil)) late))
+        (if (and notes (memq kind '(author nocite)))
+            (push pair late)
+          (push pair pairs))))
+    (append (nreverse pairs) (nreverse late))))
+
+(defun org-cite-gamhilon--put-authors (written info)
+  "Put the authors of WRITTEN into the sentences of INFO that have them."
+  (dolist (citation (org-cite-list-citations info))
+    (let ((author (org-element-property :gamhilon-author citation)))
+      (when author
+        (let ((text (or (cadr (assq author written)) "")))
+          (org-element-set-contents
+           author (org-cite-gamhilon--exported
+                   (org-cite-gamhilon--varied text citation info) info)))))))
 
 (defun org-cite-gamhilon--answer (info)
   "What is written of the citations of INFO, as an alist, and their requests.
 INFO keeps it."
   (or (plist-get info :cite-gamhilon)
       (let* ((citations (org-cite-list-citations info))
-             (first (org-cite-gamhilon--all-requests citations nil info))
-             (notes (org-cite-gamhilon--is-note (apply #'append first) info))
-             (each (if notes (org-cite-gamhilon--all-requests citations t info) first))
-             (pairs (org-cite-gamhilon--in-order (seq-mapn #'cons citations each) notes info))
+             (first (org-cite-gamhilon--pairs citations nil info))
+             (notes (org-cite-gamhilon--is-note (apply #'append (mapcar #'cdr first)) info))
+             (pairs (if notes (org-cite-gamhilon--pairs citations t info) first))
              (requests (mapcan (lambda (pair) (copy-sequence (cdr pair))) pairs))
              (form (org-cite-gamhilon--form info))
              (lines (org-cite-gamhilon--with-authors
@@ -346,8 +365,16 @@ INFO keeps it."
                              (setq lines (seq-drop lines count)))))
                        pairs))
              (answer `(,written (requests . ,requests) (notes . ,notes))))
+        (org-cite-gamhilon--put-authors written info)
         (plist-put info :cite-gamhilon answer)
         answer)))
+
+(defun org-cite-gamhilon--parts (citation info)
+  "What is written of CITATION in INFO.
+A note that leaves out its author has that where the style writes nothing else."
+  (let ((written (car (org-cite-gamhilon--answer info))))
+    (or (cdr (assq citation written))
+        (cdr (assq (org-element-property :gamhilon-author citation) written)))))
 
 (defun org-cite-gamhilon--joined (parts)
   "PARTS, each an author and then the rest of its cite, with spaces between.
@@ -376,7 +403,7 @@ Raised numbers have none before them."
 
 (defun org-cite-gamhilon-export-citation (citation _style _backend info)
   "Export CITATION in the export of INFO."
-  (let* ((parts (cdr (assq citation (car (org-cite-gamhilon--answer info)))))
+  (let* ((parts (org-cite-gamhilon--parts citation info))
          (text (org-cite-gamhilon--varied (org-cite-gamhilon--joined parts) citation info)))
     (org-cite-gamhilon--exported
      (if (org-cite-gamhilon--goes-on-p citation info) (org-cite-gamhilon--without-stop text) text)

@@ -244,6 +244,8 @@ def _cite(works, cite):
     work = works[cite['id']]
     names = [name['family'] for name in work.get('author', [])[:1]
              if isinstance(name, dict) and isinstance(name.get('family'), str)]
+    if cite.get('author-only'):
+        return ', '.join(names)
     told = [*(names if not cite.get('suppress-author') else []), str(work.get('title', '')),
             *([cite['locator']] if 'locator' in cite else [])]
     return cite.get('prefix', '') + ', '.join(told) + cite.get('suffix', '')

@@ -168,6 +168,31 @@ def test_in_a_style_of_notes_citations_are_footnotes(export):
     assert export.asked()[0][0]['prefix'] == 'See'
 
 
+def test_an_author_stands_in_the_sentence_of_a_note(export):
+    """As in pandoc. The author is asked for behind all notes, and a note of the document has it."""
+    status, out, error = export('As [cite/t:see @doe99 p. 4], two[fn:1]; [cite/text/caps:@roe].\n\n'
+                                'Three[fn:: By [cite/t:@roe].]', notes=True)
+    assert status == 0, error
+    assert first(out) == 'As (Doe),[1] two[2]; (Roe).[3]'
+    text = ' '.join(out.split())
+    assert '[1] (SeeOn Order, 4)' in text and '[4] By (Roe, A Reply)' in text
+    told = [[(cite['id'], cite.get('note'), bool(cite.get('author-only')),
+              bool(cite.get('suppress-author'))) for cite in asked] for asked in export.asked()]
+    assert told == [[('doe99', 1, False, True)], [('roe', 2, False, False)],
+                    [('roe', 3, False, True)], [('roe', 4, False, False)],
+                    [('doe99', None, True, False)], [('roe', None, True, False)]]
+
+
+@pytest.mark.parametrize('to', ['ascii', 'html', 'latex'])
+def test_a_style_of_notes_keeps_authors_in_the_sentence(export, cites, to):
+    """Behind the author, the note has the rest."""
+    status, out, error = export('As [cite/t:@doe99 p. 4] says, and [cite/t:@roe].', to,
+                                style='notes', program=False)
+    assert status == 0, error
+    text = ' '.join(re.sub(r'<[^>]*>', '', out).split())
+    assert re.search(r'As Doe.+? says, and Roe\.', text), text
+
+
 @pytest.mark.parametrize('text, style, said', [
     ('[cite:@none]', 'author-date', "there is no entry 'none'"),
     ('[cite:@doe99]', 'no-such-style', "there is no style 'no-such-style'"),

@@ -1,4 +1,5 @@
 """Sites of Markdown some of whose pages have changed since they were written."""
+import json
 from random import Random
 
 import pytest
@@ -91,6 +92,26 @@ def test_other_pages_are_not_drawn_where_the_same_is_written_of_them(monkeypatch
     site = site_of(PAGES, list_page='three')
     assert site.revise({'two': 'D [@doe99].\n'}) == ['two']
     assert site.page('two').text == 'D ([Doe, On Order](#ref-doe99)).\n'
+
+
+@pytest.mark.parametrize('style', ['author-date', 'notes'])
+def test_other_citations_keep_their_keys(style, monkeypatch):
+    """So that a session answers those alone that have changed."""
+    asked, functions = [], MadeUpSessions()
+    put = functions.gamhilon_session_set_citations
+
+    def recorded(session, citations):
+        asked.append(json.loads(citations.bytes))
+        return put(session, citations)
+
+    functions.gamhilon_session_set_citations = recorded
+    monkeypatch.setattr(_library, '_library', _library.Library(functions))
+    site = site_of(PAGES, style)
+    first = asked[0]
+    asked.clear()
+    site.revise({'two': 'D [@doe01].\n'})
+    assert [one['citationID'] for one in first] == [one['citationID'] for one in asked[0]]
+    assert [place for place, pair in enumerate(zip(first, asked[0])) if pair[0] != pair[1]] == [3]
 
 
 @pytest.mark.parametrize('kind', [MadeUpStyle, NumberedStyle])

@@ -8,7 +8,7 @@ from typing import Dict, Optional, Sequence, Tuple
 
 from ._writing import Piece
 from .answer import Bibliography, Item
-from .html_writer import escaped, inline_html, item_to_html, list_to_html
+from .html_writer import escaped, inline_html, item_to_html, list_tag, list_to_html
 from .markdown_writer import begun, bibliography_to_markdown, inline_markdown
 
 _SPECIAL = re.compile(r'[\\`*_{}\[\]+!~^=|:$@]|(?<!&)#')
@@ -33,9 +33,13 @@ class PageWriter:
         return begun(text)
 
     def reference_list(self, bibliography: Optional[Bibliography]) -> str:
-        """The reference list, between blank lines."""
+        """The reference list, between blank lines. Its items have no columns, whatever the style
+        says of these."""
         items = bibliography_to_markdown(bibliography)
-        return f'<div id="refs" class="references">\n\n{items}\n</div>\n' if items else ''
+        if bibliography is None or not items:
+            return ''
+        layout = ['hanging-indent'] if bibliography.hanging_indent else []
+        return f'{list_tag(bibliography, layout)}\n\n{items}\n</div>\n'
 
 
 class HtmlInMarkdown(PageWriter):

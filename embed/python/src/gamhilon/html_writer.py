@@ -55,9 +55,13 @@ def item_to_html(item: Item, markup: Escape = html.escape) -> str:
 
 def list_to_html(bibliography: Bibliography, items: Sequence[str]) -> str:
     """The HTML of a bibliography of whose items this is the HTML."""
-    classes = ['references', 'csl-bib-body', *layout_classes(bibliography)]
-    return (f'<div id="refs" class="{" ".join(classes)}" style="{spacing(bibliography)}">\n'
-            f'{"".join(items)}</div>\n')
+    return f'{list_tag(bibliography, layout_classes(bibliography))}\n{"".join(items)}</div>\n'
+
+
+def list_tag(bibliography: Bibliography, layout: Sequence[str]) -> str:
+    """The tag that begins a bibliography, with these classes of its layout."""
+    classes = ' '.join(['references', 'csl-bib-body', *layout])
+    return f'<div id="refs" class="{classes}" style="{spacing(bibliography)}">'
 
 
 def style_sheet() -> str:

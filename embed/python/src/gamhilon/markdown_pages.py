@@ -91,7 +91,8 @@ class _Answered:
 
 @dataclass
 class _Page:
-    """A page, its blocks and its citations, in the order in which they are read. `own_notes` has
+    """A page, its blocks and its citations, in the order in which they are read. The `number` is
+    that of the page in whose place it stands, as `Asking` has it. `own_notes` has
     the numbers of the notes that it defines itself, each with the place of that; `warnings` what is
     odd in its text. `shown` is the page as it is drawn of what was `answered`: by `edits`, with the
     citations that are `written`; and `lost` is what is odd in these."""
@@ -101,6 +102,7 @@ class _Page:
     blocks: Blocks
     has_crlf: bool
     notes_before: int
+    number: Optional[int] = None
     own_notes: Dict[int, int] = field(default_factory=dict)
     citations: List[CitationOfPage] = field(default_factory=list)
     nested: List[CitationOfPage] = field(default_factory=list)
@@ -123,7 +125,7 @@ class _Page:
     @cached_property
     def asking(self) -> Asking:
         """What the style is asked for, once the page is read."""
-        return Asking(self.asked)
+        return Asking(self.asked, self.number)
 
     @cached_property
     def keys(self) -> Dict[str, None]:
@@ -231,7 +233,8 @@ class Site:
         self._notes = 0
         self._nocite: Tuple[str, ...] = ()
         self._listed: List[str] = []
-        self._addresses: Dict[str, Dict[str, str]] = {}
+        self._addresses: Dict[str, str] = {}
+        self._targets_at: Dict[str, Dict[str, str]] = {}
         self._places: Dict[str, int] = {}
 
     def add(self, name: str, text: str) -> None:
@@ -270,7 +273,7 @@ class Site:
             names = list(self.pages)
             for later in names[names.index(name) + 1:]:
                 self.pages[later].move_notes(moved)
-        page.answered = before.answered
+        page.answered, page.number = before.answered, before.asking.number
         return bool(moved) and self.style.is_note or not _asks_alike(before, page)
 
     def next_note(self) -> int:
@@ -295,7 +298,7 @@ class Site:
         self.bibliography = answer.bibliography
         listed = [item.key for item in answer.bibliography.items] if answer.bibliography else []
         if listed != self._listed:
-            self._listed, self._addresses, self._places = listed, {}, {}
+            self._listed, self._targets_at, self._places = listed, {}, {}
         answered, begin = {}, 0
         for page in self.pages.values():
             end = begin + len(page.asked)
@@ -353,11 +356,17 @@ class Site:
     def _targets(self, page: str) -> Dict[str, str]:
         if not self.links or self.bibliography is None:
             return _NO_TARGETS
-        address = '' if self.list_page in (None, page) else self.address(page)
-        if address not in self._addresses:
-            self._addresses[address] = {item.key: f'{address}#{anchor(item.key)}'
-                                        for item in self.bibliography.items}
-        return self._addresses[address]
+        address = self._address(page)
+        if address not in self._targets_at:
+            self._targets_at[address] = {item.key: f'{address}#{anchor(item.key)}'
+                                         for item in self.bibliography.items}
+        return self._targets_at[address]
+
+    def _address(self, page: str) -> str:
+        """The address of the list from a page."""
+        if page not in self._addresses:
+            self._addresses[page] = '' if self.list_page in (None, page) else self.address(page)
+        return self._addresses[page]
 
     def _listed_anyway(self) -> List[str]:
         """The keys that are listed without being cited."""

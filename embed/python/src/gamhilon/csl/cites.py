@@ -16,7 +16,8 @@ from .errors import CitationRefused, place
 from .warned import Warned
 
 __all__ = ['LABELS', 'Citation', 'CitationLike', 'CitationPart', 'CitationParts',
-           'CitationReader', 'Cite', 'CiteLike', 'CiteSequence', 'ids_of', 'json_of_citations']
+           'CitationReader', 'Cite', 'CiteLike', 'CiteSequence', 'ids_of', 'json_of_citations',
+           'part_number']
 
 LABELS = (
     'act', 'appendix', 'article-locator', 'book', 'canon', 'chapter', 'column', 'elocation',
@@ -158,10 +159,12 @@ class Citation(CiteSequence):
 
 class CitationPart:
     """Citations of a document that stay together, as those of a page, and the ids of their cites.
-    Each of them `is_settled`."""
+    Each of them `is_settled`. Their keys have the `number` of the part: one that stands in the
+    place of another takes over its number, so that only citations which differ are new."""
 
-    def __init__(self, citations: Sequence[Citation]) -> None:
+    def __init__(self, citations: Sequence[Citation], number: Optional[int] = None) -> None:
         self.citations = tuple(citations)
+        self.number = part_number() if number is None else number
         self.ids = frozenset([cite.id for citation in self.citations for cite in citation.cites])
 
     @cached_property
@@ -171,14 +174,22 @@ class CitationPart:
 
     @cached_property
     def keyed_json(self) -> bytes:
-        """The same with a key for each citation, which no citation of another part has."""
-        number = next(_numbers)
-        return _bytes_of([citation.keyed_json(f'part{number}.{place}')
-                          for place, citation in enumerate(self.citations)])
+        """The same with a key for each citation, which none of a part of another number has."""
+        return _bytes_of([citation.keyed_json(key)
+                          for key, citation in zip(self.keys, self.citations)])
+
+    @cached_property
+    def keys(self) -> List[str]:
+        """The keys of its citations, in their order."""
+        return [f'{self.number}.{place}' for place in range(len(self.citations))]
 
 
 _numbers = itertools.count()
-# (of the parts that have keys)
+
+
+def part_number() -> int:
+    """A number that no other part has."""
+    return next(_numbers)
 
 
 def _bytes_of(members: List[str]) -> bytes:
@@ -190,7 +201,7 @@ class CitationParts(Sequence[Citation]):
     """The citations of a document, in parts. Each part is made once for many documents."""
 
     def __init__(self, parts: Sequence[CitationPart]) -> None:
-        self._parts = parts
+        self.parts = parts
         self._citations = [citation for part in parts for citation in part.citations]
 
     def __len__(self) -> int:
@@ -207,17 +218,17 @@ class CitationParts(Sequence[Citation]):
 
     def json(self) -> bytes:
         """The JSON of the list of these citations."""
-        return b'[' + b', '.join([part.json for part in self._parts if part.citations]) + b']'
+        return b'[' + b', '.join([part.json for part in self.parts if part.citations]) + b']'
 
     def keyed_json(self) -> bytes:
         """The same with a key for each citation."""
-        texts = [part.keyed_json for part in self._parts if part.citations]
+        texts = [part.keyed_json for part in self.parts if part.citations]
         return b'[' + b', '.join(texts) + b']'
 
     @cached_property
     def ids(self) -> Set[str]:
         """The keys of all cites."""
-        return set().union(*[part.ids for part in self._parts])
+        return set().union(*[part.ids for part in self.parts])
 
 
 def ids_of(citations: Sequence[Citation]) -> Set[str]:

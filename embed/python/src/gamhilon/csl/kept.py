@@ -13,7 +13,7 @@ from ..answer import Answer, Bibliography, Item
 from ..answer import Citation as WrittenCitation
 from ..errors import LibraryMissing
 from ..texts import TextWarning
-from .cites import Citation, CitationParts
+from .cites import Citation, CitationPart, CitationParts
 from .entries import Entry, EntryTexts
 
 if TYPE_CHECKING:
@@ -78,6 +78,7 @@ class _Held:
         self._keys = _CitationKeys()
         self._citations: Dict[str, WrittenCitation] = {}
         self._order: List[str] = []
+        self._parts: Dict[int, Tuple[CitationPart, List[WrittenCitation]]] = {}
         self._items: Dict[str, Item] = {}
         self._ids: List[str] = []
         self._layout: Dict[str, Any] = {}
@@ -98,11 +99,14 @@ class _Held:
         bibliography = None if listed is None else Bibliography(
             [self._items[key] for key in self._ids], **self._layout)
         warnings = self._warnings(document) if warns else []
-        return Answer([self._citations[key] for key in self._order], bibliography, warnings)
+        return Answer(self._in_order(document.citations, said['citations']['changed']),
+                      bibliography, warnings)
 
     def _put(self, document: Document) -> None:
         """Puts the entries that are new or changed."""
-        new = [entry for entry in document.entries if not self._has(entry)]
+        known = self._entries
+        new = [entry for entry in document.entries
+               if known.get(entry['id']) is not entry and not self._has(entry)]
         if not new:
             return
         self._session.edit('put_items', document.entries_json(new))
@@ -139,6 +143,24 @@ class _Held:
             del self._citations[key]
         self._order = said.get('keys', self._order)
 
+    def _in_order(self, citations: Sequence[Citation], changed: Sequence[Mapping[str, Any]]
+                  ) -> List[WrittenCitation]:
+        """The citations that are written, in their order. Of a part without any that has changed
+        they stand together as they did."""
+        if not isinstance(citations, CitationParts):
+            self._parts = {}
+            return [self._citations[key] for key in self._order]
+        anew = {one['key'].partition('.')[0] for one in changed}
+        before, self._parts = self._parts, {}
+        found: List[WrittenCitation] = []
+        for part in citations.parts:
+            known = before.get(part.number)
+            if known is None or known[0] is not part or str(part.number) in anew:
+                known = part, [self._citations[key] for key in part.keys]
+            self._parts[part.number] = known
+            found += known[1]
+        return found
+
     def _apply_items(self, said: Mapping[str, Any]) -> None:
         for changed in said['changed']:
             self._items[changed['id']] = Item(**changed['item'])
@@ -151,8 +173,9 @@ class _Held:
         """What is odd in a document: in the order of its texts, as the library has it."""
         said = self._said_warnings()
         before = [it for it in said if it.file not in ('items', 'citations')]
+        entries = document.entries if self._entry_warnings else ()
         of_entries = [replace(warning, pointer=f'/{index}{warning.pointer}')
-                      for index, entry in enumerate(document.entries)
+                      for index, entry in enumerate(entries)
                       for warning in self._entry_warnings.get(str(entry['id']), [])]
         return [*before, *of_entries, *[it for it in said if it.file == 'citations']]
 
@@ -180,5 +203,5 @@ class _CitationKeys:
             text = citation.json
             number = self._numbers.setdefault(text, len(self._numbers))
             count = counts[number] = counts.get(number, 0) + 1
-            parts.append(citation.keyed_json(f'{number}.{count}'))
+            parts.append(citation.keyed_json(f'alone{number}.{count}'))
         return f'[{", ".join(parts)}]'.encode('utf-8', 'replace')
