@@ -1,8 +1,8 @@
 //! The text of an answer's JSON.
 use crate::rendered::{note_of, rendered_citation, rendered_item, rendered_of};
 use cite_host::answer::{Answer, ListedItem};
-use cite_host::cites::Citation;
 use cite_pieces::pieces::Pieces;
+use cite_tasks::cites::Citation;
 use cite_texts::quotes::QuoteMarks;
 use std::alloc::{AllocError, Global};
 use style_file::style::CslStyle;

@@ -1,7 +1,7 @@
 //! Answers with the driver's trees.
 use cite_host::answer::{Answer, ListedItem};
-use cite_host::cites::Citation;
 use cite_pieces::pieces::Pieces;
+use cite_tasks::cites::Citation;
 use cite_texts::quotes::QuoteMarks;
 use cite_trees::shown::shown_tree;
 use csl_base::elem::{Elem, ElemChild, ElemChildren};

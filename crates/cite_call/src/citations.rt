@@ -4,11 +4,11 @@ use crate::json::{no_json, no_utf8, wrong_part};
 use crate::reader::TextReader;
 use crate::remark::TextPlace;
 use crate::texts::TextName;
-use cite_host::cites::Citation;
 use cite_json::fault::CitationsError;
 use cite_json::notes::number_notes;
 use cite_json::reading::{ReadCitations, read_citations};
 use cite_json::unknown::{KnownItems, UnknownItem, unknown_items, with_missing};
+use cite_tasks::cites::Citation;
 use reference_values::reference::References;
 use std::alloc::{AllocError, Global};
 

@@ -3,8 +3,8 @@ use crate::error::CallError;
 use crate::reader::TextReader;
 use crate::styling::Styling;
 use crate::texts::CallTexts;
-use cite_host::cites::Citation;
 use cite_json::listing::uncited;
+use cite_tasks::cites::Citation;
 use reference_values::reference::References;
 
 /// What the texts of a call say.

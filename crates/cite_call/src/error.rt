@@ -4,9 +4,9 @@ ghost use Rattle.cite_call.specs.Status.{status};
 
 use crate::remark::{Fault, Remark, TextPlace};
 use crate::texts::TextName;
-use cite_host::error::AnswerError;
 use cite_limits::error::Excess;
 use cite_limits::places::place_in;
+use cite_tasks::error::AnswerError;
 use std::alloc::{AllocError, AllocFailed, Global};
 use std::fmt;
 use style_file::style::CslStyle;

@@ -1,27 +1,27 @@
 //! The citations and the bibliography of a document.
-use crate::cites::Citation;
 use crate::driven::driven_style;
-use crate::entries::{Items, cited_references};
-use crate::error::AnswerError;
 use crate::joining::{in_layout, joined};
-use crate::kept::KeptTexts;
-use crate::limits::{budget_of, programs_within, spend_around};
 use crate::requests::{Driver, bibliography_request, filled_driver, locators_of};
-use crate::setting::Setting;
-use crate::sorting::{SortedCitation, sorted_citations};
-use crate::writer::TaskWriter;
 use cite_collation::alphabets::Alphabet;
 use cite_limits::budget::Budget;
 use cite_limits::cost::Cost;
 use cite_locale::chain::LocaleChain;
 use cite_pieces::pieces::Pieces;
 use cite_pieces::punctuation::punctuated;
+use cite_tasks::cites::Citation;
+use cite_tasks::entries::{Items, cited_references};
+use cite_tasks::error::AnswerError;
+use cite_tasks::kept::KeptTexts;
+use cite_tasks::limits::{budget_of, programs_within, spend_around};
+use cite_tasks::setting::Setting;
+use cite_tasks::sorting::{SortedCitation, sorted_citations};
+use cite_tasks::writer::TaskWriter;
 use cite_trees::streams::{cites_of, stream_of, stream_of_child};
 use cite_walk::abbreviations::Abbreviations;
 use cite_walk::cite::Explaining;
 use csl_base::entry::PlainEntry;
 use csl_base::style::IndependentStyle;
-use csl_driver::error::FinishError;
+use csl_driver::error::{DriverError, FinishError};
 use csl_driver::rendered::{BibliographyItem, Rendered, RenderedBibliography, RenderedCitation};
 use host_memo::memo::Memo;
 use reference_values::reference::{Reference, References};
@@ -145,7 +145,7 @@ impl<'d> Document<'d> {
         let items = Items::in_order(alloc, setting, cited, kept)?;
         let citations = sorted_citations(alloc, setting, &items, self.citations)?;
         let rendered = self.rendered(alloc, setting, &items, &citations, kept)?;
-        self.finished(alloc, &rendered, &items, &citations)
+        self.finished(alloc, rendered, &items, &citations)
     }
 
     /// What the driver answers, in a style of its own.
@@ -178,18 +178,22 @@ impl<'d> Document<'d> {
     fn finished(
         &self,
         alloc: Global,
-        rendered: &Rendered,
+        rendered: Rendered,
         items: &Items<'d>,
         sorted: &[SortedCitation<'d>],
     ) -> Result<Answer, AnswerError> {
+        let Rendered {
+            bibliography,
+            citations: rendered,
+        } = rendered;
         let mut citations = Vec::new(alloc);
-        for (place, asked) in self.citations.iter().enumerate() {
-            if let Some(citation) = rendered.citations.as_slice().get(place) {
+        for (place, citation) in rendered.into_vec().into_iter().enumerate() {
+            if let Some(asked) = self.citations.get(place) {
                 let places = places_at(sorted, place);
-                citations.push(self.citation(alloc, citation, places, asked)?)?;
+                citations.push(self.citation(alloc, &citation, places, asked)?)?;
             }
         }
-        let bibliography = match &rendered.bibliography {
+        let bibliography = match bibliography {
             Some(bibliography) if self.lists_items => {
                 Some(self.listed(alloc, bibliography, items)?)
             }
@@ -239,14 +243,14 @@ impl<'d> Document<'d> {
     fn listed(
         &self,
         alloc: Global,
-        bibliography: &RenderedBibliography,
+        bibliography: RenderedBibliography,
         items: &Items<'d>,
     ) -> Result<Vec<ListedItem>, AllocError> {
         let in_quotes = self.locale.has_punctuation_in_quotes();
         let mut listed = Vec::new(alloc);
-        for item in bibliography.items.as_slice() {
+        for item in bibliography.items.into_vec() {
             let id = items.keyed_id(item.key.as_str()).unwrap_or("");
-            listed.push(listed_item(alloc, id, item, in_quotes)?)?;
+            listed.push(listed_item(alloc, id, &item, in_quotes)?)?;
         }
         Ok(listed)
     }
@@ -312,7 +316,15 @@ fn rendered_by<'e>(
     let request = bibliography_request(style, order);
     match driver.answer_csl_with(&request, memo) {
         Ok((rendered, _account)) => Ok(rendered),
-        Err(FinishError::Driver(error)) => Err(AnswerError::from(error)),
+        Err(FinishError::Driver(error)) => Err(refused(error)),
         Err(FinishError::Writer(error)) => Err(AnswerError::from(error)),
+    }
+}
+
+/// Why the driver gives no answer. A style of a document has no macros for it.
+fn refused(error: DriverError) -> AnswerError {
+    match error {
+        DriverError::MacroRing { .. } | DriverError::NumberOverflow => AnswerError::TooManyItems,
+        DriverError::OutOfMemory(_) => AnswerError::OutOfMemory,
     }
 }

@@ -1,9 +1,9 @@
 //! The cites of a citation are joined.
-use crate::cites::{Citation, MissingCite};
-use crate::wording::{Around, with_affixes};
 use cite_pieces::formatting::NOTHING_ASKED;
 use cite_pieces::piece::{Mark, Wrap};
 use cite_pieces::pieces::Pieces;
+use cite_tasks::cites::{Citation, MissingCite};
+use cite_tasks::wording::{Around, with_affixes};
 use cite_trees::streams::CiteStream;
 use std::alloc::{AllocError, Global};
 use std::collections::BTreeSet;

@@ -1,22 +1,8 @@
-//! Citations and a bibliography in a style: what the driver asks for is written by the style's
-//! layouts.
+//! The citations and the bibliography of a document, in its style: the driver is asked, and its
+//! answer becomes streams.
 #![tactic(auto)]
 
 pub mod answer;
-mod asking;
-pub mod cites;
 mod driven;
-mod entries;
-pub mod error;
-mod facts;
 mod joining;
-pub mod kept;
-pub mod limits;
-mod plain_cites;
-mod programs;
 mod requests;
-mod setting;
-mod sorting;
-mod standing;
-mod wording;
-mod writer;

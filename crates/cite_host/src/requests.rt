@@ -1,7 +1,7 @@
 //! What the driver is asked.
-use crate::cites::Cite;
-use crate::entries::Items;
-use crate::sorting::SortedCitation;
+use cite_tasks::cites::Cite;
+use cite_tasks::entries::Items;
+use cite_tasks::sorting::SortedCitation;
 use cite_walk::cite::CiteLocator;
 use csl_base::entry::PlainEntry;
 use csl_base::style::IndependentStyle;

@@ -1,5 +1,5 @@
 //! Citations that show nothing, for items that are to be listed.
-use cite_host::cites::{Citation, Cite};
+use cite_tasks::cites::{Citation, Cite};
 use reference_values::reference::References;
 use std::alloc::{AllocError, Global};
 use std::collections::BTreeSet;

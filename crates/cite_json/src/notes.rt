@@ -1,5 +1,5 @@
 //! The notes in which citations stand.
-use cite_host::cites::Citation;
+use cite_tasks::cites::Citation;
 use indexmap::IndexSet;
 use std::alloc::{AllocError, Global};
 

@@ -2,7 +2,7 @@
 use crate::fault::{CitationFault, CitationsError, Wanted};
 use crate::oddities::{Holder, note_number, oddity_of};
 use crate::warning::{CiteWarning, WarningKind};
-use cite_host::cites::{Citation, Cite};
+use cite_tasks::cites::{Citation, Cite};
 use cite_walk::cite::CiteLocator;
 use reference_json::fault::{Pointer, Step};
 use reference_json::unkept::{NumberTexts, Unkept};

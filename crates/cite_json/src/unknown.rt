@@ -1,5 +1,5 @@
 //! Cites of items that aren't there.
-use cite_host::cites::{Citation, Cite, MissingCite};
+use cite_tasks::cites::{Citation, Cite, MissingCite};
 use cite_walk::cite::CiteLocator;
 use reference_values::reference::References;
 use std::alloc::{AllocError, Global};

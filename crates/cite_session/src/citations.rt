@@ -4,10 +4,10 @@ use cite_call::citations::no_item;
 use cite_call::error::CallError;
 use cite_call::json::wrong_part;
 use cite_call::texts::TextName;
-use cite_host::cites::Citation;
 use cite_json::listing::uncited;
 use cite_json::reading::ReadCitations;
 use cite_json::unknown::{KnownItems, with_missing};
+use cite_tasks::cites::Citation;
 use std::alloc::{AllocError, Global};
 use std::collections::BTreeSet;
 

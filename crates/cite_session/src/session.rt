@@ -13,7 +13,7 @@ use cite_call::error::CallError;
 use cite_call::findings::print_warnings;
 use cite_call::reader::TextReader;
 use cite_call::remark::Remark;
-use cite_host::kept::KeptTexts;
+use cite_tasks::kept::KeptTexts;
 use std::alloc::Global;
 
 /// A document that is edited: a style, items and citations. Each answer has what changed since the

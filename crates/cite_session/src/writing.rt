@@ -5,8 +5,8 @@ use crate::style::SessionStyle;
 use crate::written::{TextWriting, WrittenTexts};
 use cite_call::error::CallError;
 use cite_call::styling::CitedItems;
-use cite_host::kept::KeptTexts;
 use cite_json::unknown::KnownItems;
+use cite_tasks::kept::KeptTexts;
 use std::alloc::Global;
 
 /// In what a document is written.

@@ -2,9 +2,9 @@
 use crate::citations::{citation_warnings, citations_in};
 use crate::documents::document_fault;
 use crate::findings::{CheckedFile, Content, print_list, push_checked, show_checked};
-use cite_host::error::AnswerError;
-use cite_host::limits::check_style;
 use cite_limits::budget::USUAL_PART;
+use cite_tasks::error::AnswerError;
+use cite_tasks::limits::check_style;
 use program_command::arguments::{CheckFormat, CheckOptions};
 use program_faults::faults::{style_faults, style_warnings};
 use program_faults::finding::Finding;

@@ -2,14 +2,14 @@
 use crate::citations::{citation_warnings, citations_in};
 use crate::explaining::{citations_by_default, explained_references, print_explained};
 use cite_host::answer::{Answer, Document};
-use cite_host::cites::Citation;
-use cite_host::error::AnswerError;
 use cite_json::listing::{citation_of_all, uncited};
 use cite_json::notes::number_notes;
 use cite_json::unknown::with_missing;
 use cite_limits::budget::USUAL_PART;
 use cite_limits::cost::Cost;
 use cite_locale::chain::LocaleChain;
+use cite_tasks::cites::Citation;
+use cite_tasks::error::AnswerError;
 use cite_walk::abbreviations::Abbreviations;
 use program_command::arguments::{Options, OutputFormat};
 use program_files::abbreviations::told_abbreviations;

@@ -1,9 +1,9 @@
 //! Which element of a style wrote each text.
 use crate::citations::citations_in;
 use cite_host::answer::Answer;
-use cite_host::cites::{Citation, Cite};
-use cite_host::error::AnswerError;
 use cite_program::program::ProgramError;
+use cite_tasks::cites::{Citation, Cite};
+use cite_tasks::error::AnswerError;
 use cite_texts::quotes::QuoteMarks;
 use program_command::arguments::{Options, OutputFormat};
 use program_files::error::CommandError;

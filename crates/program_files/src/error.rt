@@ -1,6 +1,6 @@
 //! Why a command has no answer.
 use crate::document_error::DocumentError;
-use cite_host::error::AnswerError;
+use cite_tasks::error::AnswerError;
 use program_command::error::{CommandLineError, UsageError};
 use program_command::one_line::OneLine;
 use program_faults::finding::{Finding, PrintedFinding};

@@ -1,8 +1,8 @@
 //! Cites of items that aren't there.
 use crate::error::CommandError;
 use crate::reports::show_findings;
-use cite_host::cites::Citation;
 use cite_json::unknown::{UnknownItem, unknown_items};
+use cite_tasks::cites::Citation;
 use program_faults::finding::{FilePlace, Finding};
 use reference_values::reference::References;
 use std::alloc::{AllocError, Global};

@@ -1,8 +1,8 @@
 //! Cites that lead to their items.
 use crate::page::anchor;
-use cite_host::cites::Citation;
 use cite_pieces::piece::{Mark, Piece, Wrap};
 use cite_pieces::pieces::Pieces;
+use cite_tasks::cites::Citation;
 use std::alloc::{AllocError, Global};
 
 /// What is open around the pieces that are read.

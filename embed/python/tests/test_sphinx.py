@@ -507,3 +507,17 @@ def test_authors_and_years_of_a_style(tmp_path, cites, reads):
     assert ' '.join(body(project.page('index'))) == (
         '(Doe et al. 1999, p. 4); Nelson (1987b); Doe et al.; 1987a; (1999); Adams (1980) and '
         'Zeta (2010).')
+
+
+def test_the_author_in_a_sentence_is_left_out_of_its_note(tmp_path, cites, reads):
+    project = Project(tmp_path)
+    project.write('conf.py', 'extensions = ["gamhilon.sphinx"]\nbibtex_bibfiles = ["w.bib"]\n'
+                             'gamhilon_style = "notes"\n')
+    project.write('w.bib', WORKS)
+    project.write('index.rst', 'Home\n====\n\nAs :cite:t:`nelson` says; :cite:p:`adams`.\n')
+    assert project.build() == []
+    lines = body(project.page('index'))
+    assert lines[0].startswith('As Nelson')
+    first, second = (next(line for line in lines if line.startswith(f'[{n}]')) for n in (1, 2))
+    assert 'Nelson' not in first and 'Radically' in first
+    assert 'Adams' in second and 'First' in second

@@ -103,9 +103,11 @@ class _Asking:
             else _own(names('year', cite.id), cite.id)]
 
     def text(self, cite: Cite, form: Form, cited: Cited) -> Maker:
-        """The author in the sentence, and behind it the rest of the cite."""
+        """The author in the sentence, and behind it the rest of the cite, which leaves the author
+        out where the style writes authors in its cites."""
         author = self.author(cite, form, cited)
-        place = self.ask([replace(cite, prefix='', suppress_author=self.is_author_date)], cited)
+        has_authors = self.is_author_date or self.is_note
+        place = self.ask([replace(cite, prefix='', suppress_author=has_authors)], cited)
         before = [Part(_words(f'{cite.prefix.rstrip()} '), [])] if cite.prefix else []
         return lambda answers, names: [
             *before, *(Part(part.tree, []) for part in author(answers, names)),

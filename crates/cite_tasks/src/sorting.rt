@@ -11,11 +11,13 @@ use std::alloc::{AllocError, Global};
 
 /// A citation with its cites in the order of the style.
 #[derive(Drop)]
-pub(crate) struct SortedCitation<'d> {
+pub struct SortedCitation<'d> {
     pub cites: Vec<&'d Cite>,
     /// The places of the cites in the citation of the document.
     pub places: Vec<usize>,
+    /// The number of its note.
     pub note: usize,
+    /// Whether nothing else stands in its note.
     pub is_alone: bool,
 }
 
@@ -24,7 +26,7 @@ pub(crate) struct SortedCitation<'d> {
 /// # Errors
 ///
 /// `Exceeded` where the keys take more than the budget has; `OutOfMemory`.
-pub(crate) fn sorted_citations<'d>(
+pub fn sorted_citations<'d>(
     alloc: Global,
     setting: Setting<'_>,
     items: &Items<'d>,

@@ -17,7 +17,7 @@ use std::collections::{BTreeMap, BTreeSet};
 
 /// The items that are cited, in the order of the bibliography.
 #[derive(Drop)]
-pub(crate) struct Items<'d> {
+pub struct Items<'d> {
     pub references: Vec<&'d Reference>,
     /// At the same places, what the driver knows of them.
     pub entries: Vec<PlainEntry>,
@@ -99,7 +99,7 @@ impl<'d> Items<'d> {
 /// # Errors
 ///
 /// `NoReference` where an item is cited that isn't there; `OutOfMemory`.
-pub(crate) fn cited_references<'d>(
+pub fn cited_references<'d>(
     alloc: Global,
     references: &'d References,
     citations: &[Citation],

@@ -11,7 +11,7 @@ use style_file::style::CslStyle;
 
 /// A style, with the words of a language and its own programs.
 #[derive(Clone, Copy)]
-pub(crate) struct Setting<'s> {
+pub struct Setting<'s> {
     pub style: &'s CslStyle,
     pub locale: &'s LocaleChain<'s>,
     pub alphabet: Alphabet,

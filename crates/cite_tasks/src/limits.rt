@@ -36,7 +36,7 @@ pub fn check_style(alloc: Global, style: &CslStyle, part: Cost) -> Result<(), An
 /// # Errors
 ///
 /// Those of `check_style`.
-pub(crate) fn programs_within<'s>(
+pub fn programs_within<'s>(
     alloc: Global,
     style: &'s CslStyle,
     budget: &Budget,
@@ -117,7 +117,7 @@ impl<'s> Section<'s> {
 }
 
 /// The budget of a document that cites these items.
-pub(crate) fn budget_of(
+pub fn budget_of(
     style: &CslStyle,
     part: Cost,
     references: &References,
@@ -139,7 +139,7 @@ pub(crate) fn budget_of(
 /// # Errors
 ///
 /// `Exceeded` where the budget has less left.
-pub(crate) fn spend_around(
+pub fn spend_around(
     style: &CslStyle,
     budget: &Budget,
     citations: &[Citation],

@@ -57,14 +57,14 @@ impl Citation {
     }
 
     /// Whether a cite of it is of the author alone.
-    pub(crate) fn has_author_alone(&self) -> bool {
+    pub fn has_author_alone(&self) -> bool {
         self.cites.iter().any(|cite| cite.is_author_only
             || has_missing_author(&cite.missing_before))
             || has_missing_author(&self.missing_behind)
     }
 
     /// Whether it cites items that aren't there.
-    pub(crate) fn has_missing(&self) -> bool {
+    pub fn has_missing(&self) -> bool {
         !self.missing_behind.is_empty()
             || self
                 .cites

@@ -77,14 +77,18 @@ fn begins_with_term(pieces: &Pieces) -> bool {
 
 /// The words that stand around a cite, with markup.
 #[derive(Clone, Copy)]
-pub(crate) struct Around<'c> {
+pub struct Around<'c> {
     pub prefix: &'c str,
     pub suffix: &'c str,
 }
 
 /// A cite between the words that stand around it. Where these have no space of their own beside it,
 /// one is put in. Words that begin a note begin with a capital.
-pub(crate) fn with_affixes(
+///
+/// # Errors
+///
+/// Where memory is refused.
+pub fn with_affixes(
     alloc: Global,
     pieces: Pieces,
     around: Around<'_>,

@@ -1,7 +1,6 @@
 //! Why there is no answer.
 use cite_limits::error::{Excess, LimitError};
 use cite_program::program::ProgramError;
-use csl_driver::error::DriverError;
 use std::alloc::{AllocError, AllocFailed};
 use std::fmt;
 
@@ -45,18 +44,6 @@ impl From<LimitError> for AnswerError {
         match error {
             LimitError::Exceeded(excess) => AnswerError::LimitExceeded(excess),
             LimitError::OutOfMemory => AnswerError::OutOfMemory,
-        }
-    }
-}
-
-impl From<DriverError> for AnswerError {
-    fn from(error: DriverError) -> AnswerError {
-        match error {
-            // a style of a host has no macros
-            DriverError::MacroRing { .. } | DriverError::NumberOverflow => {
-                AnswerError::TooManyItems
-            }
-            DriverError::OutOfMemory(_) => AnswerError::OutOfMemory,
         }
     }
 }

@@ -1,5 +1,5 @@
 //! The programs of a style.
-use crate::asking::AskedPlace;
+use crate::asking::{AskedPlace, reads_number};
 use cite_program::build::program_of;
 use cite_program::program::{Program, ProgramError, Step};
 use cite_sorting::keys::Key;
@@ -12,7 +12,7 @@ use style_file::variable::{NumberVariable, TextVariable, Variable};
 
 /// The programs of the layouts and the keys of a style.
 #[derive(Drop)]
-pub(crate) struct Programs<'s> {
+pub struct Programs<'s> {
     pub citation: Program<'s>,
     pub citation_keys: Vec<Key<'s>>,
     pub bibliography: Option<BibliographyProgram<'s>>,
@@ -25,12 +25,14 @@ pub(crate) struct Programs<'s> {
 
 /// The program of a bibliography.
 #[derive(Drop)]
-pub(crate) struct BibliographyProgram<'s> {
+pub struct BibliographyProgram<'s> {
     pub section: &'s Bibliography,
     pub layout: Program<'s>,
     pub keys: Vec<Key<'s>>,
     /// Whether items stand in the descending order of their numbers.
     pub counts_down: bool,
+    /// Whether the text of an item depends on its number.
+    pub reads_number: bool,
 }
 
 impl<'s> Programs<'s> {
@@ -39,9 +41,11 @@ impl<'s> Programs<'s> {
         let bibliography = match &style.bibliography {
             Some(section) => {
                 let keys = keys_of(alloc, style, &section.sort)?;
+                let layout = program_of(alloc, macros, &section.layout.elements)?;
                 Some(BibliographyProgram {
                     section,
-                    layout: program_of(alloc, macros, &section.layout.elements)?,
+                    reads_number: reads_number(&layout),
+                    layout,
                     counts_down: counts_down(&keys),
                     keys,
                 })

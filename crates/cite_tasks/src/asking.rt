@@ -1,18 +1,20 @@
-//! What a style asks of the place of a cite.
+//! What of its place and its number the text of a cite depends on.
 use cite_program::program::{NamesInUse, Program, Step};
 use style_file::choose::{CitePosition, Test};
-use style_file::element::{Text, TextSource};
+use style_file::element::TextSource;
 use style_file::names::NameOptions;
 use style_file::style::CslStyle;
 use style_file::variable::{NumberVariable, Variable};
 
-/// What of the place of a cite its text depends on.
+/// What of the place of a cite, and of its number, its text depends on.
 #[derive(Clone, Copy)]
-pub(crate) struct AskedPlace {
+pub struct AskedPlace {
     /// The cites of its item before it.
     pub cites: bool,
     /// The numbers of notes.
     pub notes: bool,
+    /// The number of its item.
+    pub number: bool,
 }
 
 impl AskedPlace {
@@ -24,8 +26,15 @@ impl AskedPlace {
                 || has_later_names(style, program)
                 || program.steps.iter().any(asks_for_position),
             notes,
+            number: reads_number(program),
         }
     }
+}
+
+/// Whether a program writes the number of an item.
+pub(crate) fn reads_number(program: &Program<'_>) -> bool {
+    let number = NumberVariable::CitationNumber;
+    program.steps.iter().any(|step| reads(step, number))
 }
 
 fn asks_for_position(step: &Step<'_>) -> bool {
@@ -41,30 +50,40 @@ fn asks_for_position(step: &Step<'_>) -> bool {
 }
 
 fn asks_for_notes(step: &Step<'_>) -> bool {
+    reads(step, NumberVariable::FirstReferenceNoteNumber) || tests_nearness(step)
+}
+
+fn tests_nearness(step: &Step<'_>) -> bool {
     match step {
-        Step::Test { branch, .. } => branch.tests.iter().any(tests_notes),
-        Step::Text(text) => is_first_note(text),
-        Step::Number(number) => number.variable == NumberVariable::FirstReferenceNoteNumber,
-        Step::Label(label) => label.variable == NumberVariable::FirstReferenceNoteNumber,
+        Step::Test { branch, .. } => branch.tests.iter().any(|test| {
+            matches!(
+                test,
+                Test::Position(CitePosition::NearNote | CitePosition::FarNote)
+            )
+        }),
         _ => false,
     }
 }
 
-fn tests_notes(test: &Test) -> bool {
+/// Whether a step writes or tests a number.
+fn reads(step: &Step<'_>, number: NumberVariable) -> bool {
+    match step {
+        Step::Test { branch, .. } => branch.tests.iter().any(|test| tests(test, number)),
+        Step::Text(text) => match &text.source {
+            TextSource::Number(variable) => *variable == number,
+            _ => false,
+        },
+        Step::Number(written) => written.variable == number,
+        Step::Label(label) => label.variable == number,
+        _ => false,
+    }
+}
+
+fn tests(test: &Test, number: NumberVariable) -> bool {
     match test {
-        Test::Position(position) => {
-            matches!(position, CitePosition::NearNote | CitePosition::FarNote)
-        }
         Test::Variable(variable) | Test::IsNumeric(variable) => {
-            *variable == Variable::Number(NumberVariable::FirstReferenceNoteNumber)
+            *variable == Variable::Number(number)
         }
-        _ => false,
-    }
-}
-
-fn is_first_note(text: &Text) -> bool {
-    match &text.source {
-        TextSource::Number(variable) => *variable == NumberVariable::FirstReferenceNoteNumber,
         _ => false,
     }
 }

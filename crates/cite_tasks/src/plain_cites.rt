@@ -7,12 +7,12 @@ use driver_lookup::state::CollapseVerdict;
 use std::alloc::AllocError;
 use style_file::style::StyleClass;
 
-/// All that the text of a cite depends on beside its item, where it has no locator, and stands apart
-/// from none.
+/// All that the text of a cite depends on beside its item, where it has no locator and doesn't
+/// stand apart.
 #[derive(PartialEq, Eq, PartialOrd, Ord, Drop)]
 pub(crate) struct PlainCite {
-    /// The number of its item, as it is printed.
-    number: usize,
+    /// The number of its item, as it is printed, where its style asks for it.
+    number: Option<usize>,
     standing: CiteStanding,
     repetition: Option<Repetition>,
     /// By what means its item is disambiguated.
@@ -47,7 +47,11 @@ impl<'s, 'i, 'd> TaskWriter<'s, 'i, 'd> {
             return Ok(None);
         };
         let plain = PlainCite {
-            number: facts.number,
+            number: if self.setting.programs.asked_place.number {
+                Some(facts.number)
+            } else {
+                None
+            },
             standing: self.asked_standing(asked),
             repetition: facts.repetition,
             means: asked.standing.means.clone()?,

@@ -31,7 +31,7 @@ use style_file::style::StyleClass;
 
 /// Writes the tasks of a document.
 #[derive(Drop)]
-pub(crate) struct TaskWriter<'s, 'i, 'd> {
+pub struct TaskWriter<'s, 'i, 'd> {
     pub alloc: Global,
     pub setting: Setting<'s>,
     pub items: &'i Items<'d>,
@@ -205,26 +205,39 @@ impl<'s, 'i, 'd> TaskWriter<'s, 'i, 'd> {
     /// Writes an item of the bibliography; one that was written alike isn't written again, where
     /// items are kept.
     fn write_item(&mut self, item: usize, standing: &Standing) -> Result<driver::Cite, LimitError> {
-        let Some(facts) = self.item_facts(item, standing) else {
+        let (Some(facts), Some(bibliography)) = (
+            self.item_facts(item, standing),
+            self.setting.bibliography(),
+        ) else {
             return Ok(nothing(self.alloc));
         };
-        let Some(listed) = self.listed_key(item, &facts) else {
-            return Ok(self.write_item_anew(facts)?.cite);
+        let Some(listed) = self.listed_key(bibliography, item, &facts) else {
+            return Ok(self.write_item_anew(bibliography, facts)?.cite);
         };
         if let Some(known) = self.kept.get(&listed) {
             return known.copied(self.setting.budget, StylePlace::Bibliography);
         }
-        let known = self.write_item_anew(facts)?;
+        let known = self.write_item_anew(bibliography, facts)?;
         Ok(self.kept.keep(listed, known)?)
     }
 
     /// All that the text of an item depends on, where items are kept.
-    fn listed_key(&self, item: usize, facts: &CiteFacts<'_>) -> Option<TextKey> {
+    fn listed_key(
+        &self,
+        bibliography: &BibliographyProgram<'_>,
+        item: usize,
+        facts: &CiteFacts<'_>,
+    ) -> Option<TextKey> {
         if !self.kept.keeps_items() {
             return None;
         }
+        let number = if bibliography.reads_number {
+            Some(facts.number)
+        } else {
+            None
+        };
         let state = ListedState {
-            number: facts.number,
+            number,
             disambiguates: facts.disambiguates,
             year_suffix: facts.year_suffix,
         };
@@ -232,10 +245,11 @@ impl<'s, 'i, 'd> TaskWriter<'s, 'i, 'd> {
     }
 
     /// Writes an item of the bibliography, with the affixes of its layout.
-    fn write_item_anew(&self, facts: CiteFacts<'_>) -> Result<KnownCite, LimitError> {
-        let Some(bibliography) = self.setting.bibliography() else {
-            return Ok(KnownCite::new(nothing(self.alloc), Cost::NOTHING));
-        };
+    fn write_item_anew(
+        &self,
+        bibliography: &'s BibliographyProgram<'s>,
+        facts: CiteFacts<'_>,
+    ) -> Result<KnownCite, LimitError> {
         let listed = write_cite(self.alloc, self.setting.item_scene(bibliography), facts)?;
         let cost = listed.cost;
         Ok(KnownCite::new(self.listed(bibliography, listed)?, cost))

@@ -40,8 +40,8 @@ pub(crate) enum TextState {
 /// All that the text of an item in the bibliography depends on beside the item.
 #[derive(Clone, Copy, PartialEq, Eq, PartialOrd, Ord)]
 pub(crate) struct ListedState {
-    /// Its number, as it is printed.
-    pub number: usize,
+    /// Its number, as it is printed, where the bibliography has it.
+    pub number: Option<usize>,
     pub disambiguates: bool,
     pub year_suffix: Option<usize>,
 }
@@ -53,7 +53,7 @@ impl KeptTexts {
     }
 
     /// Nothing yet; for one answer alone, which asks for each item once.
-    pub(crate) fn of_one_answer(alloc: Global) -> KeptTexts {
+    pub fn of_one_answer(alloc: Global) -> KeptTexts {
         KeptTexts::keeping(alloc, false)
     }
 
@@ -75,13 +75,13 @@ impl KeptTexts {
     }
 
     /// All that is here; nothing is left.
-    pub(crate) fn taken(&mut self, alloc: Global) -> KeptTexts {
+    pub fn taken(&mut self, alloc: Global) -> KeptTexts {
         let keeps_items = self.keeps_items;
         replace(self, KeptTexts::keeping(alloc, keeps_items))
     }
 
     /// Another answer begins.
-    pub(crate) fn begin_answer(&mut self) {
+    pub fn begin_answer(&mut self) {
         self.texts.begin_answer();
     }
 
