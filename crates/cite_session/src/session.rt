@@ -9,6 +9,7 @@ use crate::style::SessionStyle;
 use crate::texts::SessionTexts;
 use crate::writing::Materials;
 use crate::written::WrittenTexts;
+use cite_call::citations::check_ids;
 use cite_call::error::CallError;
 use cite_call::findings::print_warnings;
 use cite_call::reader::TextReader;
@@ -187,7 +188,7 @@ impl Session {
         if self.style.styling.options.is_draft {
             return self.written_draft(alloc);
         }
-        self.citations.check_ids(alloc, &self.library)?;
+        check_ids(alloc, &self.citations.citations, &self.library)?;
         self.draft_warnings = Vec::new(alloc);
         let materials = Materials {
             style: &self.style,
