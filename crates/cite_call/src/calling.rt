@@ -7,10 +7,11 @@ use crate::findings::print_findings;
 use crate::lines::print_lines;
 use crate::options::AnswerForm;
 use crate::reader::TextReader;
-use crate::remark::{Fault, Remark, TextPlace};
+use crate::remark::{Fault, Remark};
 use crate::style::style_faults;
 use crate::texts::{CallTexts, TextName};
 use cite_answer::printing::print_answer;
+use cite_inputs::place::FaultPlace;
 use std::alloc::{AllocError, Global};
 
 /// The citations and the bibliography of these texts, which is there where the style has one: as
@@ -101,7 +102,7 @@ fn all_faults(
             Fault {
                 remark: Remark {
                     text: TextName::Style,
-                    place: TextPlace::Line { .. },
+                    place: FaultPlace::Line(_),
                     ..
                 },
                 ..

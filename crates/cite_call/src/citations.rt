@@ -1,13 +1,13 @@
 //! The citations of a call.
-use crate::error::CallError;
+use crate::error::{CallError, no_item};
 use crate::json::{no_json, no_utf8, wrong_part};
 use crate::reader::TextReader;
-use crate::remark::TextPlace;
 use crate::texts::TextName;
+use cite_inputs::place::FaultPlace;
 use cite_json::fault::CitationsError;
 use cite_json::notes::number_notes;
 use cite_json::reading::{ReadCitations, read_citations};
-use cite_json::unknown::{KnownItems, UnknownItem, unknown_items, with_missing};
+use cite_json::unknown::{KnownItems, unknown_items, with_missing};
 use cite_tasks::cites::Citation;
 use reference_values::reference::References;
 use std::alloc::{AllocError, Global};
@@ -57,8 +57,8 @@ impl TextReader {
         items: &I,
     ) -> Result<(), AllocError> {
         for item in unknown_items(self.alloc, citations, items)? {
-            let pointer = unknown_place(self.alloc, &item)?;
-            self.warn(TextName::Citations, TextPlace::Pointer(pointer), &item)?;
+            let pointer = id_pointer(self.alloc, item.citation, item.cite)?;
+            self.warn(TextName::Citations, FaultPlace::Pointer(pointer), &item)?;
         }
         Ok(())
     }
@@ -98,38 +98,30 @@ fn citations_refusal(alloc: Global, error: &CitationsError) -> CallError {
     }
 }
 
-/// The way to the id of an item that isn't there.
-fn unknown_place(alloc: Global, item: &UnknownItem) -> Result<String, AllocError> {
-    let citation = item.citation;
-    let cite = item.cite;
-    format!(in alloc; "/{citation}/{cite}/id")
-}
-
 /// Refuses a cite of an item that isn't there.
-fn check_ids(
+///
+/// # Errors
+///
+/// `Fault` at the first such cite; `OutOfMemory`.
+pub fn check_ids<I: KnownItems>(
     alloc: Global,
     citations: &[Citation],
-    references: &References,
+    items: &I,
 ) -> Result<(), CallError> {
     for (number, citation) in citations.iter().enumerate() {
         for (place, cite) in citation.cites.iter().enumerate() {
             let id = cite.id.as_str();
-            if references.get(id).is_none() {
-                return Err(no_item(alloc, number, place, id));
+            if !items.has(id) {
+                let pointer = id_pointer(alloc, number, place)?;
+                return Err(no_item(alloc, pointer, id));
             }
         }
     }
     Ok(())
 }
 
-/// The error of a cite of an item that isn't there; `number` is the place of its citation, and
-/// `place` its own there, both from 0.
-pub fn no_item(alloc: Global, number: usize, place: usize, id: &str) -> CallError {
-    let Ok(pointer) = format!(in alloc; "/{number}/{place}/id") else {
-        return CallError::OutOfMemory;
-    };
-    match format!(in alloc; "there is no item `{id}`") {
-        Ok(why) => wrong_part(alloc, TextName::Citations, &pointer, &why),
-        Err(_) => CallError::OutOfMemory,
-    }
+/// The way to the id of a cite: `number` is the place of its citation, and `place` its own there,
+/// both from 0.
+fn id_pointer(alloc: Global, number: usize, place: usize) -> Result<String, AllocError> {
+    format!(in alloc; "/{number}/{place}/id")
 }

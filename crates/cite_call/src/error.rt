@@ -2,8 +2,9 @@
 ghost use Rattle.std.specs.Prelude.{◌≡◌};
 ghost use Rattle.cite_call.specs.Status.{status};
 
-use crate::remark::{Fault, Remark, TextPlace};
+use crate::remark::{Fault, Remark};
 use crate::texts::TextName;
+use cite_inputs::place::FaultPlace;
 use cite_limits::error::Excess;
 use cite_limits::places::place_in;
 use cite_tasks::error::AnswerError;
@@ -41,7 +42,7 @@ impl CallError {
 pub(crate) fn refusal<W: fmt::Display>(
     alloc: Global,
     text: TextName,
-    place: TextPlace,
+    place: FaultPlace,
     why: &W,
 ) -> CallError {
     match format!(in alloc; "{why}") {
@@ -65,8 +66,13 @@ pub(crate) fn answer_refusal(
     error: AnswerError,
 ) -> CallError {
     match error {
-        AnswerError::NoReference { citation, id } => no_item(alloc, citation, id.as_str()),
-        AnswerError::StyleTooLong => refusal(alloc, TextName::Style, TextPlace::Whole, &error),
+        AnswerError::NoReference { citation, id } => {
+            match format!(in alloc; "/{citation}") {
+                Ok(pointer) => no_item(alloc, pointer, id.as_str()),
+                Err(_) => CallError::OutOfMemory,
+            }
+        }
+        AnswerError::StyleTooLong => refusal(alloc, TextName::Style, FaultPlace::Whole, &error),
         AnswerError::LimitExceeded(excess) => match limit_remark(alloc, text, style, &excess) {
             Ok(remark) => CallError::LimitExceeded(remark),
             Err(_) => CallError::OutOfMemory,
@@ -84,30 +90,21 @@ fn limit_remark(
     excess: &Excess,
 ) -> Result<Remark, AllocError> {
     let text = str::from_utf8(text).unwrap_or("");
-    let place = match place_in(alloc, text, style, excess.place)? {
-        Some(place) => TextPlace::Line {
-            line: place.line,
-            column: place.column,
-        },
-        None => TextPlace::Whole,
-    };
     Ok(Remark {
         text: TextName::Style,
-        place,
+        place: FaultPlace::at_line(place_in(alloc, text, style, excess.place)?),
         message: format!(in alloc; "{excess}")?,
     })
 }
 
-/// The error of a citation that cites no item.
-fn no_item(alloc: Global, citation: usize, id: &str) -> CallError {
-    let Ok(pointer) = format!(in alloc; "/{citation}") else {
-        return CallError::OutOfMemory;
-    };
+/// The error of the part of the citations to which a pointer leads, where it cites an item that
+/// isn't there.
+pub(crate) fn no_item(alloc: Global, pointer: String, id: &str) -> CallError {
     match format!(in alloc; "there is no item `{id}`") {
         Ok(why) => refusal(
             alloc,
             TextName::Citations,
-            TextPlace::Pointer(pointer),
+            FaultPlace::Pointer(pointer),
             &why,
         ),
         Err(_) => CallError::OutOfMemory,

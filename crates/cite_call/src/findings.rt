@@ -1,5 +1,5 @@
 //! What is wrong and odd in the texts of a call, as JSON.
-use crate::remark::{Fault, ParentStyle, Remark, TextPlace};
+use crate::remark::{Fault, ParentStyle, Remark};
 use serde_json::{Map, Value, put};
 use std::alloc::{AllocError, Global};
 
@@ -111,28 +111,6 @@ fn remark_members(alloc: Global, remark: &Remark) -> Result<Map<String, Value>, 
     let message = remark.message.clone()?;
     put(&mut members, alloc, "file", Value::String(name))?;
     put(&mut members, alloc, "message", Value::String(message))?;
-    put_place(alloc, &mut members, &remark.place)?;
+    remark.place.put_into(alloc, &mut members)?;
     Ok(members)
-}
-
-/// Adds where something is.
-fn put_place(
-    alloc: Global,
-    members: &mut Map<String, Value>,
-    place: &TextPlace,
-) -> Result<(), AllocError> {
-    match place {
-        TextPlace::Whole => Ok(()),
-        TextPlace::Line { line, column } => {
-            put(members, alloc, "line", Value::from(*line))?;
-            put(members, alloc, "column", Value::from(*column))
-        }
-        TextPlace::Pointer(pointer) => {
-            put(members, alloc, "pointer", Value::String(pointer.clone()?))
-        }
-        TextPlace::Field { entry, field } => {
-            put(members, alloc, "entry", Value::String(entry.clone()?))?;
-            put(members, alloc, "field", Value::String(field.clone()?))
-        }
-    }
 }

@@ -3,8 +3,9 @@ use crate::error::CallError;
 use crate::json::{no_json, no_utf8, wrong_part};
 use crate::options::CallOptions;
 use crate::reader::TextReader;
-use crate::remark::TextPlace;
 use crate::texts::TextName;
+use cite_inputs::language::DEFAULT_LANGUAGE;
+use cite_inputs::place::FaultPlace;
 use reference_files::form::ReferenceForm;
 use reference_files::reading::read_file;
 use reference_items::json::json_of;
@@ -13,9 +14,7 @@ use reference_json::fault::{Fault, ReferencesError};
 use reference_json::reading::{read_references, read_sound_references};
 use reference_values::reference::References;
 use std::alloc::{AllocError, Global};
-
-/// The language of entries that say none, where the options name none.
-const LANGUAGE: &str = "en-US";
+use style_xml::error::Place;
 
 impl TextReader {
     /// The items of CSL-JSON, BibTeX, BibLaTeX or RIS: in the form that the options name, or else
@@ -51,7 +50,7 @@ impl TextReader {
             Ok(text) => text,
             Err(error) => return Err(no_utf8(self.alloc, TextName::Items, error.valid_up_to())),
         };
-        let language = options.language.as_deref().unwrap_or(LANGUAGE);
+        let language = options.language.as_deref().unwrap_or(DEFAULT_LANGUAGE);
         match read_file(self.alloc, form, text, language)? {
             Some(read) => {
                 self.warn_of_entries(&read)?;
@@ -65,14 +64,14 @@ impl TextReader {
     /// entries.
     fn warn_of_entries(&mut self, read: &ReadItems) -> Result<(), AllocError> {
         for fault in &read.faults {
-            let place = TextPlace::Line {
+            let place = FaultPlace::Line(Place {
                 line: fault.line,
                 column: fault.column,
-            };
+            });
             self.warn(TextName::Items, place, &fault.reason)?;
         }
         for loss in &read.losses {
-            let place = TextPlace::Field {
+            let place = FaultPlace::Field {
                 entry: loss.entry.clone()?,
                 field: loss.field.clone()?,
             };

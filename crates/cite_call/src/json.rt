@@ -1,10 +1,11 @@
 //! JSON texts that no other crate reads.
 use crate::error::{CallError, refusal};
-use crate::remark::TextPlace;
 use crate::texts::TextName;
+use cite_inputs::place::FaultPlace;
 use serde_json::Value;
 use std::alloc::Global;
 use std::fmt;
+use style_xml::error::Place;
 
 /// The JSON value that a text is.
 ///
@@ -25,15 +26,26 @@ pub fn json_value(alloc: Global, name: TextName, bytes: &[u8]) -> Result<Value, 
 
 /// The error of a text of JSON that is no UTF-8 from this byte on.
 pub(crate) fn no_utf8(alloc: Global, name: TextName, byte: usize) -> CallError {
+    no_utf8_at(alloc, name, FaultPlace::Whole, byte)
+}
+
+/// The error of a text that is no UTF-8 from this byte on, which is reported at this place.
+pub(crate) fn no_utf8_at(
+    alloc: Global,
+    name: TextName,
+    place: FaultPlace,
+    byte: usize,
+) -> CallError {
     match format!(in alloc; "no UTF-8 from byte {byte}") {
-        Ok(why) => refusal(alloc, name, TextPlace::Whole, &why),
+        Ok(why) => refusal(alloc, name, place, &why),
         Err(_) => CallError::OutOfMemory,
     }
 }
 
 /// The error of a text that is no JSON from this place on.
 pub(crate) fn no_json(alloc: Global, name: TextName, line: usize, column: usize) -> CallError {
-    refusal(alloc, name, TextPlace::Line { line, column }, &"no JSON")
+    let place = FaultPlace::Line(Place { line, column });
+    refusal(alloc, name, place, &"no JSON")
 }
 
 /// The error of a part of JSON that isn't what is wanted there.
@@ -43,8 +55,21 @@ pub fn wrong_part<P: fmt::Display, W: fmt::Display>(
     pointer: &P,
     why: &W,
 ) -> CallError {
-    match format!(in alloc; "{pointer}") {
-        Ok(pointer) => refusal(alloc, name, TextPlace::Pointer(pointer), why),
+    match FaultPlace::at_pointer(alloc, pointer) {
+        Ok(place) => refusal(alloc, name, place, why),
+        Err(_) => CallError::OutOfMemory,
+    }
+}
+
+/// The error of an item of a list of JSON that isn't what is wanted at its place, from 0.
+pub fn wrong_item<W: fmt::Display>(
+    alloc: Global,
+    name: TextName,
+    place: usize,
+    why: &W,
+) -> CallError {
+    match format!(in alloc; "/{place}") {
+        Ok(pointer) => refusal(alloc, name, FaultPlace::Pointer(pointer), why),
         Err(_) => CallError::OutOfMemory,
     }
 }

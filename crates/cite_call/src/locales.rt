@@ -1,19 +1,17 @@
 //! The locale files of a call.
 use crate::error::{CallError, refusal};
-use crate::json::{json_value, wrong_part};
+use crate::json::{json_value, wrong_item};
 use crate::reader::TextReader;
-use crate::remark::TextPlace;
 use crate::style::file_refusal;
 use crate::texts::TextName;
+use cite_inputs::language::BUILT_IN_LANGUAGE;
+use cite_inputs::place::FaultPlace;
 use cite_locale::tags::is_same_tag;
 use std::alloc::{AllocError, Global};
 use style_english::words::ENGLISH;
 use style_file::fallback::{LocaleSource, lookup_order};
 use style_file::locale::LocaleFile;
 use style_reader::file::read_locale;
-
-/// The language whose words are built in.
-const BUILT_IN: &str = "en-US";
 
 impl TextReader {
     /// The locale files in which words of this language are looked for: those of a JSON list, and
@@ -28,14 +26,14 @@ impl TextReader {
         language: &str,
     ) -> Result<Vec<LocaleFile>, CallError> {
         let mut files = self.given_locales(bytes)?;
-        if !has_file(&files, BUILT_IN) {
+        if !has_file(&files, BUILT_IN_LANGUAGE) {
             files.push(built_in(self.alloc)?)?;
         }
         if !has_words(self.alloc, &files, language)? {
             let what = format!(in self.alloc;
                 "no locale of `{language}`, its words are those of American English"
             )?;
-            self.warn(TextName::Locales, TextPlace::Whole, &what)?;
+            self.warn(TextName::Locales, FaultPlace::Whole, &what)?;
         }
         Ok(files)
     }
@@ -49,13 +47,14 @@ impl TextReader {
         }
         let value = json_value(alloc, TextName::Locales, bytes)?;
         let Some(items) = value.as_array() else {
-            let place = TextPlace::Pointer(String::new(alloc));
+            let place = FaultPlace::Pointer(String::new(alloc));
             let why = "wanted a list of the texts of locale files";
             return Err(refusal(alloc, TextName::Locales, place, &why));
         };
         for (place, item) in items.iter().enumerate() {
             let Some(text) = item.as_str() else {
-                return Err(no_text(alloc, place));
+                let why = "wanted the text of a locale file";
+                return Err(wrong_item(alloc, TextName::Locales, place, &why));
             };
             let file = self.locale(place, text)?;
             if has_file(&files, file.language.as_str()) {
@@ -79,17 +78,7 @@ impl TextReader {
 
     fn warn_of_repeated(&mut self, place: usize) -> Result<(), AllocError> {
         let what = "a locale before it is of the same language, so it is left out";
-        self.warn(TextName::Locale(place), TextPlace::Whole, &what)
-    }
-}
-
-fn no_text(alloc: Global, place: usize) -> CallError {
-    match format!(in alloc; "/{place}") {
-        Ok(pointer) => {
-            let why = "wanted the text of a locale file";
-            wrong_part(alloc, TextName::Locales, &pointer, &why)
-        }
-        Err(_) => CallError::OutOfMemory,
+        self.warn(TextName::Locale(place), FaultPlace::Whole, &what)
     }
 }
 

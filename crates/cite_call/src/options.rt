@@ -1,8 +1,8 @@
 //! The options of a call.
 use crate::error::{CallError, refusal};
 use crate::json::{json_value, wrong_part};
-use crate::remark::TextPlace;
 use crate::texts::TextName;
+use cite_inputs::place::FaultPlace;
 use cite_json::abbreviations::{AbbreviationsError, abbreviations_of};
 use cite_limits::budget::USUAL_PART;
 use cite_limits::cost::Cost;
@@ -71,7 +71,7 @@ pub(crate) fn options_of(alloc: Global, bytes: &[u8]) -> Result<CallOptions, Cal
     }
     let value = json_value(alloc, TextName::Options, bytes)?;
     let Some(object) = value.as_object() else {
-        let place = TextPlace::Pointer(String::new(alloc));
+        let place = FaultPlace::Pointer(String::new(alloc));
         return Err(refusal(
             alloc,
             TextName::Options,
@@ -124,11 +124,7 @@ fn truth_in(alloc: Global, key: &str, value: &Value) -> Result<bool, CallError> 
 
 /// The form that the value names.
 fn form_in(alloc: Global, value: &Value) -> Result<AnswerForm, CallError> {
-    let name = match value {
-        Value::String(name) => name.as_str(),
-        _ => "",
-    };
-    match name {
+    match value.as_str().unwrap_or("") {
         "json" => Ok(AnswerForm::Json),
         "text" => Ok(AnswerForm::Lines(Form::Text)),
         "html" => Ok(AnswerForm::Lines(Form::Html)),
@@ -143,11 +139,7 @@ fn form_in(alloc: Global, value: &Value) -> Result<AnswerForm, CallError> {
 
 /// The form of references that the value names.
 fn reference_form_in(alloc: Global, value: &Value) -> Result<ReferenceForm, CallError> {
-    let name = match value {
-        Value::String(name) => name.as_str(),
-        _ => "",
-    };
-    match ReferenceForm::of_name(name) {
+    match ReferenceForm::of_name(value.as_str().unwrap_or("")) {
         Some(form) => Ok(form),
         None => {
             let why = "wanted `csl-json`, `bibtex`, `biblatex` or `ris`";

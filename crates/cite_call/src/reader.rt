@@ -1,6 +1,7 @@
 //! The reader of texts, and what it warns of.
-use crate::remark::{Remark, TextPlace};
+use crate::remark::Remark;
 use crate::texts::TextName;
+use cite_inputs::place::FaultPlace;
 use std::alloc::{AllocError, Global};
 use std::fmt;
 
@@ -29,7 +30,7 @@ impl TextReader {
     pub fn warn<W: fmt::Display>(
         &mut self,
         text: TextName,
-        place: TextPlace,
+        place: FaultPlace,
         what: &W,
     ) -> Result<(), AllocError> {
         let message = format!(in self.alloc; "{what}")?;
@@ -48,7 +49,7 @@ impl TextReader {
         pointer: &P,
         what: &W,
     ) -> Result<(), AllocError> {
-        let pointer = format!(in self.alloc; "{pointer}")?;
-        self.warn(text, TextPlace::Pointer(pointer), what)
+        let place = FaultPlace::at_pointer(self.alloc, pointer)?;
+        self.warn(text, place, what)
     }
 }

@@ -1,26 +1,14 @@
 //! What is wrong or odd in a text.
 use crate::texts::TextName;
+use cite_inputs::place::FaultPlace;
 use std::fmt;
-
-/// Where in a text something is.
-#[derive(Debug, Drop)]
-pub enum TextPlace {
-    /// In the text as a whole.
-    Whole,
-    /// At this line and this column of it, both from 1.
-    Line { line: usize, column: usize },
-    /// At the part of its JSON to which this JSON Pointer (RFC 6901) leads; an empty one leads to
-    /// the whole.
-    Pointer(String),
-    /// In this field of the entry with this key.
-    Field { entry: String, field: String },
-}
+use style_xml::error::Place;
 
 /// Something that is wrong or odd in a text.
 #[derive(Debug, Drop)]
 pub struct Remark {
     pub text: TextName,
-    pub place: TextPlace,
+    pub place: FaultPlace,
     /// What it is, in words.
     pub message: String,
 }
@@ -47,15 +35,15 @@ impl fmt::Display for Remark {
         let text = &self.text;
         write!(f, "{text}:")?;
         match &self.place {
-            TextPlace::Whole => {}
-            TextPlace::Line { line, column } => write!(f, "{line}:{column}:")?,
-            TextPlace::Pointer(pointer) if pointer.is_empty() => {}
-            TextPlace::Pointer(pointer) => {
+            FaultPlace::Whole => {}
+            FaultPlace::Line(Place { line, column }) => write!(f, "{line}:{column}:")?,
+            FaultPlace::Pointer(pointer) if pointer.is_empty() => {}
+            FaultPlace::Pointer(pointer) => {
                 f.write_char(' ')?;
                 f.write_str(pointer.as_str())?;
                 f.write_char(':')?;
             }
-            TextPlace::Field { entry, field } => {
+            FaultPlace::Field { entry, field } => {
                 let entry = entry.as_str();
                 let field = field.as_str();
                 write!(f, " {entry}: {field}:")?;

@@ -1,14 +1,16 @@
 //! The style of a call.
 use crate::error::{CallError, refusal};
+use crate::json::no_utf8_at;
 use crate::reader::TextReader;
-use crate::remark::{Fault, ParentStyle, Remark, TextPlace};
+use crate::remark::{Fault, ParentStyle, Remark};
 use crate::texts::TextName;
+use cite_inputs::place::FaultPlace;
 use std::alloc::{AllocError, Global};
 use style_elements::error::StyleError;
 use style_elements::warning::Warning;
 use style_file::style::{CslStyle, DependentStyle, StyleFile};
 use style_reader::file::{faults_in_file, read_style};
-use style_xml::error::{Place, place_at};
+use style_xml::error::place_at;
 
 impl TextReader {
     /// The style of a style file.
@@ -40,7 +42,7 @@ impl TextReader {
         warnings: &[Warning],
     ) -> Result<(), AllocError> {
         for warning in warnings {
-            self.warn(name, text_place(warning.place), warning)?;
+            self.warn(name, FaultPlace::Line(warning.place), warning)?;
         }
         Ok(())
     }
@@ -50,11 +52,8 @@ impl TextReader {
 fn no_utf8(alloc: Global, bytes: &[u8], byte: usize) -> CallError {
     let valid = &bytes[..byte.min(bytes.len())];
     let text = str::from_utf8(valid).unwrap_or("");
-    let place = text_place(place_at(text, byte));
-    match format!(in alloc; "no UTF-8 from byte {byte}") {
-        Ok(why) => refusal(alloc, TextName::Style, place, &why),
-        Err(_) => CallError::OutOfMemory,
-    }
+    let place = FaultPlace::Line(place_at(text, byte));
+    no_utf8_at(alloc, TextName::Style, place, byte)
 }
 
 /// All that is wrong with a style file, in the order of the places; nothing where the text is no
@@ -81,7 +80,7 @@ fn style_remark(alloc: Global, error: &StyleError) -> Result<Remark, AllocError>
     };
     Ok(Remark {
         text: TextName::Style,
-        place: text_place(place),
+        place: FaultPlace::Line(place),
         message,
     })
 }
@@ -89,16 +88,11 @@ fn style_remark(alloc: Global, error: &StyleError) -> Result<Remark, AllocError>
 /// Why a text is no style file or no locale file.
 pub(crate) fn file_refusal(alloc: Global, name: TextName, error: &StyleError) -> CallError {
     match error {
-        StyleError::Malformed(fault, place) => refusal(alloc, name, text_place(*place), fault),
-        StyleError::Refused(fault, place) => refusal(alloc, name, text_place(*place), fault),
+        StyleError::Malformed(fault, place) => {
+            refusal(alloc, name, FaultPlace::Line(*place), fault)
+        }
+        StyleError::Refused(fault, place) => refusal(alloc, name, FaultPlace::Line(*place), fault),
         StyleError::OutOfMemory => CallError::OutOfMemory,
-    }
-}
-
-fn text_place(place: Place) -> TextPlace {
-    TextPlace::Line {
-        line: place.line,
-        column: place.column,
     }
 }
 
@@ -122,7 +116,7 @@ fn dependent_fault(alloc: Global, style: DependentStyle) -> Result<Fault, AllocE
     Ok(Fault {
         remark: Remark {
             text: TextName::Style,
-            place: TextPlace::Whole,
+            place: FaultPlace::Whole,
             message,
         },
         parent: Some(ParentStyle {

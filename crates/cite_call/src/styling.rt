@@ -3,6 +3,7 @@ use crate::error::{CallError, answer_refusal};
 use crate::options::{CallOptions, options_of};
 use crate::reader::TextReader;
 use cite_host::answer::{Answer, Document};
+use cite_inputs::language::DEFAULT_LANGUAGE;
 use cite_locale::chain::LocaleChain;
 use cite_locale::tags::usual_tag;
 use cite_tasks::cites::Citation;
@@ -12,9 +13,6 @@ use reference_values::reference::References;
 use std::alloc::{AllocError, Global};
 use style_file::locale::LocaleFile;
 use style_file::style::CslStyle;
-
-/// The language of a document that names none.
-const LANGUAGE: &str = "en-US";
 
 /// What the texts of a call say beside the items and the citations.
 #[derive(Drop)]
@@ -156,5 +154,5 @@ fn language_of(
         .language
         .as_deref()
         .or(style.default_locale.as_deref());
-    usual_tag(alloc, told.unwrap_or(LANGUAGE))
+    usual_tag(alloc, told.unwrap_or(DEFAULT_LANGUAGE))
 }

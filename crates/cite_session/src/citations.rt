@@ -1,6 +1,5 @@
 //! The citations of a session.
 use crate::library::Library;
-use cite_call::citations::no_item;
 use cite_call::error::CallError;
 use cite_call::json::wrong_part;
 use cite_call::texts::TextName;
@@ -38,23 +37,6 @@ impl KeyedCitations {
             keys: keys_of(alloc, read.ids)?,
             citations: read.citations,
         })
-    }
-
-    /// Refuses a cite of an item that the library lacks.
-    ///
-    /// # Errors
-    ///
-    /// `Fault` at the first such cite; `OutOfMemory`.
-    pub fn check_ids(&self, alloc: Global, library: &Library) -> Result<(), CallError> {
-        for (number, citation) in self.citations.iter().enumerate() {
-            for (place, cite) in citation.cites.iter().enumerate() {
-                let id = cite.id.as_str();
-                if !library.has(id) {
-                    return Err(no_item(alloc, number, place, id));
-                }
-            }
-        }
-        Ok(())
     }
 
     /// The same citations as those of a draft: their cites of items that aren't there are missing

@@ -1,6 +1,6 @@
 //! Ids read from JSON.
 use cite_call::error::CallError;
-use cite_call::json::{json_value, wrong_part};
+use cite_call::json::{json_value, wrong_item, wrong_part};
 use cite_call::texts::TextName;
 use reference_json::fault::{Pointer, Step};
 use reference_json::unkept::{NumberTexts, Unkept};
@@ -23,7 +23,10 @@ pub(crate) fn read_ids(alloc: Global, bytes: &[u8]) -> Result<Vec<String>, CallE
     for (place, member) in members.iter().enumerate() {
         match id_of(alloc, &unkept.number_texts, place, member)? {
             Some(id) => ids.push(id)?,
-            None => return Err(no_id(alloc, place)),
+            None => {
+                let why = "wanted an id, which is a text or a number";
+                return Err(wrong_item(alloc, TextName::Items, place, &why));
+            }
         }
     }
     Ok(ids)
@@ -56,14 +59,4 @@ fn number_text(
     let mut steps = Vec::new(alloc);
     steps.push(Step::Item(place))?;
     texts.text_at(alloc, &Pointer { steps }, number)
-}
-
-fn no_id(alloc: Global, place: usize) -> CallError {
-    match format!(in alloc; "/{place}") {
-        Ok(pointer) => {
-            let why = "wanted an id, which is a text or a number";
-            wrong_part(alloc, TextName::Items, &pointer, &why)
-        }
-        Err(_) => CallError::OutOfMemory,
-    }
 }

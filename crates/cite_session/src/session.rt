@@ -9,6 +9,7 @@ use crate::style::SessionStyle;
 use crate::texts::SessionTexts;
 use crate::writing::Materials;
 use crate::written::WrittenTexts;
+use cite_call::citations::check_ids;
 use cite_call::error::CallError;
 use cite_call::findings::print_warnings;
 use cite_call::reader::TextReader;
@@ -187,13 +188,14 @@ impl Session {
         if self.style.styling.options.is_draft {
             return self.written_draft(alloc);
         }
-        self.citations.check_ids(alloc, &self.library)?;
-        self.draft_warnings = Vec::new(alloc);
+        check_ids(alloc, &self.citations.citations, &self.library)?;
         let materials = Materials {
             style: &self.style,
             library: &self.library,
         };
-        materials.written(alloc, &mut self.citations, &mut self.kept)
+        let texts = materials.written(alloc, &mut self.citations, &mut self.kept)?;
+        self.draft_warnings = Vec::new(alloc);
+        Ok(texts)
     }
 
     /// The texts of a document that is a draft.

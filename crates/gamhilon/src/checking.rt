@@ -12,10 +12,9 @@ use program_files::entries::converted;
 use program_files::error::{CommandError, LIMIT_EXCEEDED};
 use program_files::files::{bytes_of, bytes_refused};
 use program_files::items::item_warnings;
-use program_files::json_causes::behind_mark;
+use program_files::json_causes::{behind_mark, value_or_null};
 use program_files::references::references_in;
-use program_files::reports::{limit_exceeded, refused, refused_for};
-use serde_json::Value;
+use program_files::reports::{limit_exceeded, refused, refused_for, refused_for_all};
 use std::alloc::{AllocError, Global};
 use std::process::ExitCode;
 use std::rt::Files;
@@ -164,13 +163,8 @@ fn is_space(byte: u8) -> bool {
 
 /// Whether a JSON object has `items`, as references do.
 fn has_items(alloc: Global, bytes: &[u8]) -> bool {
-    let Ok(text) = str::from_utf8(behind_mark(bytes)) else {
-        return false;
-    };
-    match Value::from_str(alloc, text) {
-        Ok(value) => value.get("items").is_some(),
-        Err(_) => false,
-    }
+    let value = value_or_null(alloc, behind_mark(bytes));
+    value.get("items").is_some()
 }
 
 /// Which style or locale a file of these bytes is.
@@ -214,10 +208,7 @@ fn csl_content(
 
 /// What is wrong with a style file or a locale file of this text.
 fn csl_refused(alloc: Global, path: &str, text: &str) -> Result<CommandError, AllocError> {
-    Ok(CommandError::Refused {
-        path: String::from_str(alloc, path)?,
-        faults: style_faults(alloc, text)?,
-    })
+    refused_for_all(alloc, path, style_faults(alloc, text)?)
 }
 
 /// Refuses a style that takes more than it may whatever the items have.

@@ -1,10 +1,10 @@
 //! Citations of files, with what is wrong and odd in them.
+use cite_inputs::place::FaultPlace;
 use cite_json::fault::{CitationFault, CitationsError};
 use cite_json::reading::{ReadCitations, read_citations};
 use cite_json::warning::CiteWarning;
 use program_faults::finding::Finding;
 use program_files::error::CommandError;
-use program_files::items::place_at;
 use program_files::json_causes::{behind_mark, json_refused};
 use program_files::reports::{refused, refused_in};
 use reference_files::form::{ReferenceForm, form_of};
@@ -44,7 +44,7 @@ fn citation_refused(
     if fault.pointer.steps.is_empty() {
         return refused(alloc, path, &fault.wanted);
     }
-    let place = place_at(alloc, &fault.pointer)?;
+    let place = FaultPlace::at_pointer(alloc, &fault.pointer)?;
     refused_in(alloc, path, place, &fault.wanted)
 }
 
@@ -59,7 +59,7 @@ pub(crate) fn citation_warnings(
 ) -> Result<Vec<Finding>, AllocError> {
     let mut findings = Vec::new(alloc);
     for CiteWarning { pointer, kind } in warnings {
-        let place = place_at(alloc, pointer)?;
+        let place = FaultPlace::at_pointer(alloc, pointer)?;
         findings.push(Finding::warning(alloc, place, kind)?)?;
     }
     Ok(findings)

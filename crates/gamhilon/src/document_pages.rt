@@ -1,10 +1,8 @@
 //! What pages of an answer have of its document.
+use cite_inputs::language::DEFAULT_LANGUAGE;
 use program_pages::page::anchor;
 use serde_json::Value;
 use std::alloc::{AllocError, Global};
-
-/// The language of a document that names none.
-const LANGUAGE: &str = "en-US";
 
 /// For each request of a document the ids of the items of its cites, in their order.
 ///
@@ -26,7 +24,7 @@ pub(crate) fn targets_of(alloc: Global, document: &Value) -> Result<Vec<Vec<Stri
 /// The tag of the language of a document: that of its bibliography, or else of the style of that.
 pub(crate) fn language_of(document: &Value) -> &str {
     let Some(bibliography) = document.get("bibliography") else {
-        return LANGUAGE;
+        return DEFAULT_LANGUAGE;
     };
     if let Some(told) = text_at(bibliography, "locale") {
         return told;
@@ -35,7 +33,7 @@ pub(crate) fn language_of(document: &Value) -> &str {
     let style = document.get("styles").and_then(|styles| styles.get(name));
     style
         .and_then(|style| text_at(style, "default_locale"))
-        .unwrap_or(LANGUAGE)
+        .unwrap_or(DEFAULT_LANGUAGE)
 }
 
 fn list_at<'v>(object: &'v Value, key: &str) -> &'v [Value] {
@@ -45,7 +43,8 @@ fn list_at<'v>(object: &'v Value, key: &str) -> &'v [Value] {
     }
 }
 
-fn text_at<'v>(object: &'v Value, key: &str) -> Option<&'v str> {
+/// The text at a key of an object, if there is one.
+pub(crate) fn text_at<'v>(object: &'v Value, key: &str) -> Option<&'v str> {
     match object.get(key) {
         Some(Value::String(text)) => Some(text.as_str()),
         _ => None,

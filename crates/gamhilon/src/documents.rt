@@ -1,5 +1,6 @@
 //! Documents of `cite_run` are answered, and their faults reported.
-use crate::document_pages::{language_of, targets_of};
+use crate::document_pages::{language_of, targets_of, text_at};
+use cite_inputs::place::FaultPlace;
 use document_answer::error::RunError;
 use document_answer::faults::print_fault_bytes;
 use document_answer::limits::{LimitError, check_limits};
@@ -7,11 +8,11 @@ use document_answer::running::{answer_bytes, print_bytes, print_json_bytes};
 use driver_assembly::rendered::Rendered;
 use driver_styles::limits::{Excess, Limits};
 use program_command::arguments::{DocumentOptions, OutputFormat};
-use program_faults::finding::{FilePlace, Finding};
+use program_faults::finding::Finding;
 use program_files::document_error::DocumentError;
 use program_files::error::CommandError;
 use program_files::files::bytes_of;
-use program_files::json_causes::{behind_mark, json_cause};
+use program_files::json_causes::{behind_mark, json_cause, value_or_null};
 use program_files::reports::{document_refused, refused, refused_for};
 use program_pages::documents::{answer_of, layout_of, no_marks};
 use program_pages::printing::{Printing, print_whole};
@@ -72,8 +73,7 @@ fn print_form(
     bytes: &[u8],
     rendered: &Rendered,
 ) -> Result<(), CommandError> {
-    let text = str::from_utf8(behind_mark(bytes)).unwrap_or("");
-    let document = Value::from_str(rt.alloc(), text).unwrap_or(Value::Null);
+    let document = value_or_null(rt.alloc(), behind_mark(bytes));
     let mut targets = Vec::new(rt.alloc());
     if options.links_citations && rendered.bibliography.is_some() {
         targets = targets_of(rt.alloc(), &document)?;
@@ -171,19 +171,11 @@ pub(crate) fn document_fault(alloc: Global, bytes: &[u8]) -> Result<Option<Findi
 /// A fault of these bytes, which is given as JSON, in the words of faults of references.
 fn in_words(alloc: Global, bytes: &[u8], fault: &Value) -> Result<Finding, AllocError> {
     if let Some(cause) = json_cause(alloc, bytes)? {
-        return Finding::error(alloc, FilePlace::Whole, &cause);
+        return Finding::error(alloc, FaultPlace::Whole, &cause);
     }
-    let found = text_at(fault, "found");
-    let wanted = text_at(fault, "wanted");
+    let found = text_at(fault, "found").unwrap_or("");
+    let wanted = text_at(fault, "wanted").unwrap_or("");
     let why = format!(in alloc; "found {found}, wanted {wanted}")?;
-    let pointer = String::from_str(alloc, text_at(fault, "pointer"))?;
-    Finding::error(alloc, FilePlace::Pointer(pointer), &why)
-}
-
-/// The text at a key; empty where there is none.
-fn text_at<'v>(object: &'v Value, key: &str) -> &'v str {
-    match object.get(key) {
-        Some(Value::String(text)) => text.as_str(),
-        _ => "",
-    }
+    let pointer = String::from_str(alloc, text_at(fault, "pointer").unwrap_or(""))?;
+    Finding::error(alloc, FaultPlace::Pointer(pointer), &why)
 }

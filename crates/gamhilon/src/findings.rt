@@ -1,6 +1,7 @@
 //! What comes of the check of a file, as lines of text and as JSON.
+use cite_inputs::place::FaultPlace;
 use program_command::one_line::OneLine;
-use program_faults::finding::{FilePlace, Finding};
+use program_faults::finding::Finding;
 use program_files::error::CommandError;
 use program_files::reports::show_findings;
 use serde_json::{Map, Value, put};
@@ -8,7 +9,6 @@ use std::alloc::{AllocError, Global};
 use std::{fmt, io};
 use style_file::style::StyleFile;
 use style_reader::file::CslFile;
-use style_xml::error::Place;
 
 /// What a file is.
 #[derive(Drop)]
@@ -235,7 +235,7 @@ fn push_fault<W: fmt::Display>(
     values: &mut Vec<Value>,
     why: &W,
 ) -> Result<(), AllocError> {
-    let fault = Finding::error(alloc, FilePlace::Whole, why)?;
+    let fault = Finding::error(alloc, FaultPlace::Whole, why)?;
     Ok(values.push(json_of(alloc, &fault)?)?)
 }
 
@@ -254,30 +254,10 @@ fn push_findings(
 fn json_of(alloc: Global, finding: &Finding) -> Result<Value, AllocError> {
     let mut members = Map::new(alloc);
     put_text(alloc, &mut members, "severity", finding.severity.name())?;
-    put_place(alloc, &mut members, &finding.place)?;
+    finding.place.put_into(alloc, &mut members)?;
     let message = format!(in alloc; "{}", OneLine(finding.message.as_str()))?;
     put(&mut members, alloc, "message", Value::String(message))?;
     Ok(Value::Object(members))
-}
-
-/// Adds where something is.
-fn put_place(
-    alloc: Global,
-    members: &mut Map<String, Value>,
-    place: &FilePlace,
-) -> Result<(), AllocError> {
-    match place {
-        FilePlace::Whole => Ok(()),
-        FilePlace::Line(Place { line, column }) => {
-            put(members, alloc, "line", Value::from(*line))?;
-            put(members, alloc, "column", Value::from(*column))
-        }
-        FilePlace::Pointer(pointer) => put_text(alloc, members, "pointer", pointer.as_str()),
-        FilePlace::Field { entry, field } => {
-            put_text(alloc, members, "entry", entry.as_str())?;
-            put_text(alloc, members, "field", field.as_str())
-        }
-    }
 }
 
 fn put_text(

@@ -1,5 +1,6 @@
 //! What is wrong and odd in a style file or a locale file.
-use crate::finding::{FilePlace, Finding};
+use crate::finding::Finding;
+use cite_inputs::place::FaultPlace;
 use program_command::one_line::is_direction;
 use std::alloc::{AllocError, Global};
 use std::fmt;
@@ -32,7 +33,7 @@ fn fault_at<W: fmt::Display>(
     place: Place,
     why: &W,
 ) -> Result<Finding, AllocError> {
-    let mut fault = Finding::error(alloc, FilePlace::Line(place), why)?;
+    let mut fault = Finding::error(alloc, FaultPlace::Line(place), why)?;
     fault.excerpt = Some(line_with_caret(alloc, text, place)?);
     Ok(fault)
 }
@@ -45,7 +46,7 @@ fn fault_at<W: fmt::Display>(
 pub fn style_warnings(alloc: Global, warnings: &[Warning]) -> Result<Vec<Finding>, AllocError> {
     let mut findings = Vec::new(alloc);
     for warning in warnings {
-        let place = FilePlace::Line(warning.place);
+        let place = FaultPlace::Line(warning.place);
         findings.push(Finding::warning(alloc, place, warning)?)?;
     }
     Ok(findings)

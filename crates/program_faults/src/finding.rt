@@ -1,4 +1,5 @@
 //! What is wrong or odd in a file, and where.
+use cite_inputs::place::FaultPlace;
 use program_command::one_line::OneLine;
 use std::alloc::{AllocError, Global};
 use std::fmt;
@@ -13,25 +14,11 @@ pub enum Severity {
     Warning,
 }
 
-/// Where in a file something is.
-#[derive(Debug, Drop)]
-pub enum FilePlace {
-    /// In the file as a whole.
-    Whole,
-    /// At this line and this column of it.
-    Line(Place),
-    /// At the part of its JSON to which this JSON Pointer (RFC 6901) leads; an empty one leads to
-    /// the whole.
-    Pointer(String),
-    /// In this field of the entry with this key.
-    Field { entry: String, field: String },
-}
-
 /// Something that is wrong or odd in a file.
 #[derive(Debug, Drop)]
 pub struct Finding {
     pub severity: Severity,
-    pub place: FilePlace,
+    pub place: FaultPlace,
     /// What it is, in words.
     pub message: String,
     /// The line of the file that has the place, and below it a caret, where they are shown.
@@ -56,7 +43,7 @@ impl Finding {
     /// Where memory is refused.
     pub fn error<W: fmt::Display>(
         alloc: Global,
-        place: FilePlace,
+        place: FaultPlace,
         why: &W,
     ) -> Result<Finding, AllocError> {
         Finding::new(alloc, Severity::Error, place, why)
@@ -69,7 +56,7 @@ impl Finding {
     /// Where memory is refused.
     pub fn warning<W: fmt::Display>(
         alloc: Global,
-        place: FilePlace,
+        place: FaultPlace,
         what: &W,
     ) -> Result<Finding, AllocError> {
         Finding::new(alloc, Severity::Warning, place, what)
@@ -78,7 +65,7 @@ impl Finding {
     fn new<W: fmt::Display>(
         alloc: Global,
         severity: Severity,
-        place: FilePlace,
+        place: FaultPlace,
         message: &W,
     ) -> Result<Finding, AllocError> {
         Ok(Finding {
@@ -103,7 +90,7 @@ impl<'f> fmt::Display for PrintedFinding<'f> {
         let name = self.finding.severity.name();
         let message = OneLine(self.finding.message.as_str());
         write!(f, "{path}:")?;
-        if let FilePlace::Line(Place { line, column }) = &self.finding.place {
+        if let FaultPlace::Line(Place { line, column }) = &self.finding.place {
             write!(f, "{line}:{column}:")?;
         }
         write!(f, " {name}: ")?;
@@ -114,14 +101,14 @@ impl<'f> fmt::Display for PrintedFinding<'f> {
 }
 
 /// Writes which part of the file a place is, before what is found there.
-fn write_part<W: fmt::Write>(f: &mut fmt::Formatter<W>, place: &FilePlace) -> fmt::Result {
+fn write_part<W: fmt::Write>(f: &mut fmt::Formatter<W>, place: &FaultPlace) -> fmt::Result {
     match place {
-        FilePlace::Whole | FilePlace::Line(_) => Ok(()),
-        FilePlace::Pointer(pointer) => {
+        FaultPlace::Whole | FaultPlace::Line(_) => Ok(()),
+        FaultPlace::Pointer(pointer) => {
             let pointer = OneLine(pointer.as_str());
             write!(f, "{pointer}: ")
         }
-        FilePlace::Field { entry, field } => {
+        FaultPlace::Field { entry, field } => {
             let entry = OneLine(entry.as_str());
             let field = OneLine(field.as_str());
             write!(f, "{entry}: {field}: ")

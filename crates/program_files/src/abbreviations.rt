@@ -1,13 +1,11 @@
 //! The abbreviations of a command.
 use crate::error::CommandError;
 use crate::files::bytes_of;
-use crate::json_causes::{behind_mark, json_refused};
+use crate::json_causes::{behind_mark, value_in};
 use crate::reports::refused;
 use cite_json::abbreviations::{AbbreviationsError, abbreviations_of};
 use cite_walk::abbreviations::Abbreviations;
 use program_command::arguments::Options;
-use serde_json::Value;
-use std::alloc::Global;
 use std::rt::Files;
 
 /// The abbreviations in the file of a command, if it has one.
@@ -28,22 +26,5 @@ pub fn told_abbreviations(
         Ok(abbreviations) => Ok(Some(abbreviations)),
         Err(AbbreviationsError::Fault(fault)) => Err(refused(rt.alloc(), path, &fault)?),
         Err(AbbreviationsError::OutOfMemory) => Err(CommandError::OutOfMemory),
-    }
-}
-
-/// The JSON value in a file of these bytes.
-fn value_in(alloc: Global, path: &str, bytes: &[u8]) -> Result<Value, CommandError> {
-    let text = match str::from_utf8(bytes) {
-        Ok(text) => text,
-        Err(error) => {
-            let byte = error.valid_up_to();
-            let why = format!(in alloc; "no UTF-8 from byte {byte}")?;
-            return Err(json_refused(alloc, path, bytes, &why)?);
-        }
-    };
-    match Value::from_str(alloc, text) {
-        Ok(value) => Ok(value),
-        Err(error) if error.is_memory() => Err(CommandError::OutOfMemory),
-        Err(_) => Err(json_refused(alloc, path, bytes, &"no JSON")?),
     }
 }

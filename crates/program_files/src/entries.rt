@@ -1,22 +1,20 @@
 //! References of files in any form, as CSL-JSON.
 use crate::error::CommandError;
 use crate::files::bytes_of;
-use crate::json_causes::{behind_mark, json_refused};
+use crate::json_causes::{behind_mark, value_in};
 use crate::reports::{refused, show_findings, show_warning};
+use cite_inputs::language::DEFAULT_LANGUAGE;
+use cite_inputs::place::FaultPlace;
 use program_command::arguments::EntriesOptions;
-use program_faults::finding::{FilePlace, Finding};
+use program_faults::finding::Finding;
 use reference_files::form::{ReferenceForm, form_of};
 use reference_files::reading::read_file;
 use reference_items::json::json_of;
 use reference_items::reading::{Loss, ReadItems};
-use reference_json::fault::ReferencesError;
 use serde_json::Value;
 use std::alloc::{AllocError, Global};
 use std::rt::Files;
 use style_xml::error::Place;
-
-/// The language of entries that say none.
-const LANGUAGE: &str = "en-US";
 
 /// Prints the references of files as one list of CSL-JSON, and what was lost of them, by entry and
 /// field, on standard error.
@@ -121,7 +119,7 @@ fn items_of(
         return Ok(None);
     }
     match str::from_utf8(bytes) {
-        Ok(text) => Ok(read_file(alloc, form, text, LANGUAGE)?),
+        Ok(text) => Ok(read_file(alloc, form, text, DEFAULT_LANGUAGE)?),
         Err(error) => {
             let byte = error.valid_up_to();
             let why = format!(in alloc; "no UTF-8 from byte {byte}")?;
@@ -134,7 +132,7 @@ fn items_of(
 fn unread_parts(alloc: Global, bytes: &[u8], read: &ReadItems) -> Result<Vec<Finding>, AllocError> {
     let mut findings = Vec::new(alloc);
     for fault in &read.faults {
-        let place = FilePlace::Line(Place {
+        let place = FaultPlace::Line(Place {
             line: fault.line,
             column: fault.column,
         });
@@ -142,7 +140,7 @@ fn unread_parts(alloc: Global, bytes: &[u8], read: &ReadItems) -> Result<Vec<Fin
     }
     if lacks_entries(read, bytes) {
         let what = "there is no entry in it";
-        findings.push(Finding::warning(alloc, FilePlace::Whole, &what)?)?;
+        findings.push(Finding::warning(alloc, FaultPlace::Whole, &what)?)?;
     }
     Ok(findings)
 }
@@ -155,7 +153,7 @@ fn lacks_entries(read: &ReadItems, bytes: &[u8]) -> bool {
 
 /// What an item doesn't have of its entry.
 fn loss_warning(alloc: Global, loss: &Loss) -> Result<Finding, AllocError> {
-    let place = FilePlace::Field {
+    let place = FaultPlace::Field {
         entry: loss.entry.clone()?,
         field: loss.field.clone()?,
     };
@@ -199,33 +197,8 @@ fn push_json(
     bytes: &[u8],
     list: &mut String,
 ) -> Result<(), CommandError> {
-    let bytes = behind_mark(bytes);
-    let whole = match str::from_utf8(bytes) {
-        Ok(text) => Value::from_str(alloc, text),
-        Err(error) => {
-            let byte = error.valid_up_to();
-            let error = ReferencesError::NoUtf8 { byte };
-            return Err(json_refused(alloc, path, bytes, &error)?);
-        }
-    };
-    match whole {
-        Ok(whole) => push_values(alloc, path, &whole, list),
-        Err(error) if error.is_memory() => Err(CommandError::OutOfMemory),
-        Err(error) => {
-            let (line, column) = (error.line(), error.column());
-            let error = ReferencesError::NoJson { line, column };
-            Err(json_refused(alloc, path, bytes, &error)?)
-        }
-    }
-}
-
-fn push_values(
-    alloc: Global,
-    path: &str,
-    whole: &Value,
-    list: &mut String,
-) -> Result<(), CommandError> {
-    let items = whole.get("items").unwrap_or(whole);
+    let whole = value_in(alloc, path, behind_mark(bytes))?;
+    let items = whole.get("items").unwrap_or(&whole);
     let Value::Array(items) = items else {
         return Err(refused(alloc, path, &"CSL-JSON is a list of items")?);
     };

@@ -1,8 +1,9 @@
 //! Items, by their places in a file of references.
 use crate::error::CommandError;
-use crate::json_causes::behind_mark;
+use crate::json_causes::{behind_mark, value_or_null};
 use crate::reports::{refused_in, show_findings};
-use program_faults::finding::{FilePlace, Finding};
+use cite_inputs::place::FaultPlace;
+use program_faults::finding::Finding;
 use reference_json::fault::{Fault, Pointer, Step};
 use reference_json::warning::Warning;
 use serde_json::Value;
@@ -37,7 +38,7 @@ pub fn item_warnings(
     if warnings.is_empty() {
         return Ok(findings);
     }
-    let whole = value_of(alloc, behind_mark(bytes));
+    let whole = value_or_null(alloc, behind_mark(bytes));
     for warning in warnings {
         findings.push(item_warning(alloc, &whole, warning)?)?;
     }
@@ -50,17 +51,7 @@ fn item_warning(alloc: Global, whole: &Value, warning: &Warning) -> Result<Findi
     let item = named_item(alloc, whole, pointer)?;
     let item = item.as_str();
     let what = format!(in alloc; "{kind}{item}")?;
-    Finding::warning(alloc, place_at(alloc, pointer)?, &what)
-}
-
-/// The part of a file's JSON to which this way leads.
-///
-/// # Errors
-///
-/// Where memory is refused.
-pub fn place_at(alloc: Global, pointer: &Pointer) -> Result<FilePlace, AllocError> {
-    let pointer = format!(in alloc; "{pointer}")?;
-    Ok(FilePlace::Pointer(pointer))
+    Finding::warning(alloc, FaultPlace::at_pointer(alloc, pointer)?, &what)
 }
 
 /// What is wrong with an item of a file of these bytes, with the id of the item.
@@ -79,19 +70,11 @@ pub fn item_refused(
         found,
         wanted,
     } = fault;
-    let whole = value_of(alloc, bytes);
+    let whole = value_or_null(alloc, bytes);
     let item = named_item(alloc, &whole, pointer)?;
     let item = item.as_str();
     let why = format!(in alloc; "found {found}, wanted {wanted}{item}")?;
-    refused_in(alloc, path, place_at(alloc, pointer)?, &why)
-}
-
-/// The value of JSON that was read before; null where it can't be read again.
-fn value_of(alloc: Global, bytes: &[u8]) -> Value {
-    match str::from_utf8(bytes) {
-        Ok(text) => Value::from_str(alloc, text).unwrap_or(Value::Null),
-        Err(_) => Value::Null,
-    }
+    refused_in(alloc, path, FaultPlace::at_pointer(alloc, pointer)?, &why)
 }
 
 /// The words that name the item to which a way leads, or into which; empty where that has no id.

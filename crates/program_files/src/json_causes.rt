@@ -21,6 +21,35 @@ pub fn behind_mark(bytes: &[u8]) -> &[u8] {
     }
 }
 
+/// The JSON value of these bytes of a file, which are behind its byte order mark.
+///
+/// # Errors
+///
+/// `Refused` where they are no JSON; `OutOfMemory`.
+pub fn value_in(alloc: Global, path: &str, bytes: &[u8]) -> Result<Value, CommandError> {
+    let text = match str::from_utf8(bytes) {
+        Ok(text) => text,
+        Err(error) => {
+            let byte = error.valid_up_to();
+            let why = format!(in alloc; "no UTF-8 from byte {byte}")?;
+            return Err(json_refused(alloc, path, bytes, &why)?);
+        }
+    };
+    match Value::from_str(alloc, text) {
+        Ok(value) => Ok(value),
+        Err(error) if error.is_memory() => Err(CommandError::OutOfMemory),
+        Err(_) => Err(json_refused(alloc, path, bytes, &"no JSON")?),
+    }
+}
+
+/// The JSON value of these bytes; null where they are none, or memory is refused.
+pub fn value_or_null(alloc: Global, bytes: &[u8]) -> Value {
+    match str::from_utf8(bytes) {
+        Ok(text) => Value::from_str(alloc, text).unwrap_or(Value::Null),
+        Err(_) => Value::Null,
+    }
+}
+
 /// What is wrong with a file of JSON, by this report of its reader: at a line and a column, where
 /// it is no UTF-8 or no JSON.
 ///

@@ -2,6 +2,7 @@
 use crate::error::CommandError;
 use crate::files::{is_absent, text_of};
 use crate::reports::{show_style_warnings, show_warning, style_refused};
+use cite_inputs::language::BUILT_IN_LANGUAGE;
 use program_command::arguments::Options;
 use program_command::one_line::OneLine;
 use std::alloc::Global;
@@ -13,9 +14,6 @@ use style_reader::file::read_locale;
 
 /// Where locale files are by default.
 const LOCALES: &str = "/usr/share/citation-style-language/locales";
-
-/// The language whose words are built in.
-const BUILT_IN: &str = "en-US";
 
 /// The locale files in which words of a language are looked for (CSL 1.0.2, "Locale Fallback"). A
 /// file that isn't there is left out, and so is one that can't be read. A warning reports the
@@ -32,11 +30,12 @@ pub fn locales_of(
 ) -> Result<Vec<LocaleFile>, CommandError> {
     let folder = options.locales.as_deref();
     let mut files = Vec::new(rt.alloc());
-    let mut is_found = is_same_language(language, "en") || is_same_language(language, BUILT_IN);
+    let mut is_found = is_same_language(language, "en")
+        || is_same_language(language, BUILT_IN_LANGUAGE);
     for source in lookup_order(rt.alloc(), language)? {
         if let LocaleSource::File(tag) = source {
             if let Some(file) = locale_of(rt, folder, tag)? {
-                is_found = is_found || !is_same_language(tag, BUILT_IN);
+                is_found = is_found || !is_same_language(tag, BUILT_IN_LANGUAGE);
                 files.push(file)?;
             }
         }
@@ -54,7 +53,7 @@ fn locale_of(
     folder: Option<&str>,
     tag: &str,
 ) -> Result<Option<LocaleFile>, CommandError> {
-    let is_built_in = is_same_language(tag, BUILT_IN);
+    let is_built_in = is_same_language(tag, BUILT_IN_LANGUAGE);
     if is_built_in && folder.is_none() {
         return Ok(Some(built_in(rt.alloc())?));
     }
@@ -100,6 +99,6 @@ fn locale_in(
 fn built_in(alloc: Global) -> Result<LocaleFile, CommandError> {
     match read_locale(alloc, ENGLISH) {
         Ok((file, _)) => Ok(file),
-        Err(error) => Err(style_refused(alloc, BUILT_IN, &error)?),
+        Err(error) => Err(style_refused(alloc, BUILT_IN_LANGUAGE, &error)?),
     }
 }

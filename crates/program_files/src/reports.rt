@@ -1,10 +1,11 @@
 //! What is wrong and odd in files, as errors of a command and as lines on standard error.
 use crate::document_error::DocumentError;
 use crate::error::CommandError;
+use cite_inputs::place::FaultPlace;
 use cite_limits::error::Excess;
 use cite_limits::places::place_in;
 use program_faults::faults::style_warnings;
-use program_faults::finding::{FilePlace, Finding, PrintedFinding};
+use program_faults::finding::{Finding, PrintedFinding};
 use std::alloc::{AllocError, Global};
 use std::fmt;
 use style_elements::error::StyleError;
@@ -22,7 +23,7 @@ pub fn refused<W: fmt::Display>(
     path: &str,
     why: &W,
 ) -> Result<CommandError, AllocError> {
-    refused_in(alloc, path, FilePlace::Whole, why)
+    refused_in(alloc, path, FaultPlace::Whole, why)
 }
 
 /// What is wrong at a line and a column of a file.
@@ -36,7 +37,7 @@ pub fn refused_at<W: fmt::Display>(
     place: Place,
     why: &W,
 ) -> Result<CommandError, AllocError> {
-    refused_in(alloc, path, FilePlace::Line(place), why)
+    refused_in(alloc, path, FaultPlace::Line(place), why)
 }
 
 /// What is wrong at a place of a file.
@@ -47,7 +48,7 @@ pub fn refused_at<W: fmt::Display>(
 pub fn refused_in<W: fmt::Display>(
     alloc: Global,
     path: &str,
-    place: FilePlace,
+    place: FaultPlace,
     why: &W,
 ) -> Result<CommandError, AllocError> {
     refused_for(alloc, path, Finding::error(alloc, place, why)?)
@@ -61,6 +62,19 @@ pub fn refused_in<W: fmt::Display>(
 pub fn refused_for(alloc: Global, path: &str, fault: Finding) -> Result<CommandError, AllocError> {
     let mut faults = Vec::new(alloc);
     faults.push(fault)?;
+    refused_for_all(alloc, path, faults)
+}
+
+/// The error of a file that has these faults.
+///
+/// # Errors
+///
+/// Where memory is refused.
+pub fn refused_for_all(
+    alloc: Global,
+    path: &str,
+    faults: Vec<Finding>,
+) -> Result<CommandError, AllocError> {
     Ok(CommandError::Refused {
         path: String::from_str(alloc, path)?,
         faults,
@@ -79,10 +93,7 @@ pub fn limit_exceeded(
     style: &CslStyle,
     excess: &Excess,
 ) -> Result<CommandError, AllocError> {
-    let place = match place_in(alloc, text, style, excess.place)? {
-        Some(place) => FilePlace::Line(place),
-        None => FilePlace::Whole,
-    };
+    let place = FaultPlace::at_line(place_in(alloc, text, style, excess.place)?);
     Ok(CommandError::LimitExceeded {
         path: String::from_str(alloc, path)?,
         fault: Finding::error(alloc, place, excess)?,
@@ -154,7 +165,7 @@ pub fn show_warning<W: fmt::Display>(
     path: &str,
     warning: &W,
 ) -> Result<(), AllocError> {
-    let finding = Finding::warning(rt.alloc(), FilePlace::Whole, warning)?;
+    let finding = Finding::warning(rt.alloc(), FaultPlace::Whole, warning)?;
     let finding = &finding;
     let line = PrintedFinding { path, finding };
     let _ = eprintln!(rt; "{line}");

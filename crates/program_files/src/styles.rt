@@ -3,6 +3,7 @@ use crate::error::CommandError;
 use crate::files::{is_absent, text_of};
 use crate::near_styles::near_style;
 use crate::reports::{refused, show_style_warnings, style_refused};
+use cite_inputs::language::DEFAULT_LANGUAGE;
 use cite_locale::tags::usual_tag;
 use program_command::arguments::Options;
 use program_styles::styles::style_named;
@@ -14,9 +15,6 @@ use style_reader::file::read_style;
 
 /// Where styles are by default.
 const STYLES: &str = "/usr/share/citation-style-language/styles";
-
-/// The language of a document that names none.
-const LANGUAGE: &str = "en-US";
 
 /// A style, and the language that a style which depends on it asks for.
 #[derive(Drop)]
@@ -48,7 +46,7 @@ impl FoundStyle {
             .as_deref()
             .or(self.language.as_deref())
             .or(self.style.default_locale.as_deref());
-        usual_tag(alloc, told.unwrap_or(LANGUAGE))
+        usual_tag(alloc, told.unwrap_or(DEFAULT_LANGUAGE))
     }
 }
 

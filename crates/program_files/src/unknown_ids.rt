@@ -1,9 +1,10 @@
 //! Cites of items that aren't there.
 use crate::error::CommandError;
-use crate::reports::show_findings;
+use crate::reports::{refused_for_all, show_findings};
+use cite_inputs::place::FaultPlace;
 use cite_json::unknown::{UnknownItem, unknown_items};
 use cite_tasks::cites::Citation;
-use program_faults::finding::{FilePlace, Finding};
+use program_faults::finding::Finding;
 use reference_values::reference::References;
 use std::alloc::{AllocError, Global};
 
@@ -25,10 +26,7 @@ pub fn check_ids(
     if faults.is_empty() {
         return Ok(());
     }
-    Err(CommandError::Refused {
-        path: String::from_str(alloc, path)?,
-        faults,
-    })
+    Err(refused_for_all(alloc, path, faults)?)
 }
 
 /// Warns of each cite of an item that isn't among these.
@@ -61,9 +59,9 @@ fn unknown_warning(alloc: Global, item: &UnknownItem) -> Result<Finding, AllocEr
 }
 
 /// Where a cite is, by the indexes of its citation and its own.
-fn cite_place(alloc: Global, item: &UnknownItem) -> Result<FilePlace, AllocError> {
+fn cite_place(alloc: Global, item: &UnknownItem) -> Result<FaultPlace, AllocError> {
     let citation = item.citation;
     let cite = item.cite;
     let pointer = format!(in alloc; "/{citation}/{cite}")?;
-    Ok(FilePlace::Pointer(pointer))
+    Ok(FaultPlace::Pointer(pointer))
 }
