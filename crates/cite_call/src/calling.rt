@@ -1,17 +1,18 @@
 //! The calls.
 ghost use Rattle.std.specs.Prelude.{◌≡◌, IfErr};
 
-use crate::document::CallDocument;
-use crate::error::CallError;
-use crate::findings::print_findings;
+use crate::answering::StyledDocument;
 use crate::lines::print_lines;
-use crate::options::AnswerForm;
-use crate::reader::TextReader;
-use crate::remark::{Fault, Remark};
-use crate::style::style_faults;
-use crate::texts::{CallTexts, TextName};
 use cite_answer::printing::print_answer;
+use cite_inputs::document::CallDocument;
+use cite_inputs::error::CallError;
+use cite_inputs::findings::print_findings;
+use cite_inputs::options::AnswerForm;
 use cite_inputs::place::FaultPlace;
+use cite_inputs::reader::TextReader;
+use cite_inputs::remark::{Fault, Remark};
+use cite_inputs::style::style_faults;
+use cite_inputs::texts::{CallTexts, TextName};
 use std::alloc::{AllocError, Global};
 
 /// The citations and the bibliography of these texts, which is there where the style has one: as
@@ -40,7 +41,14 @@ fn print_document(
         shown,
     } = document;
     let locale = styling.locale(alloc)?;
-    let mut answer = styling.answer(alloc, text, &locale, references, citations)?;
+    let styled = StyledDocument {
+        styling,
+        text,
+        locale: &locale,
+        references,
+        citations,
+    };
+    let mut answer = styled.answer(alloc)?;
     answer.citations.truncate(*shown);
     let marks = locale.quote_marks();
     Ok(match styling.options.form {

@@ -1,8 +1,8 @@
 //! The citations of a session.
 use crate::library::Library;
-use cite_call::error::CallError;
-use cite_call::json::wrong_part;
-use cite_call::texts::TextName;
+use cite_inputs::error::CallError;
+use cite_inputs::json::wrong_part;
+use cite_inputs::texts::TextName;
 use cite_json::listing::uncited;
 use cite_json::reading::ReadCitations;
 use cite_json::unknown::{KnownItems, with_missing};

@@ -1,7 +1,7 @@
 //! Ids read from JSON.
-use cite_call::error::CallError;
-use cite_call::json::{json_value, wrong_item, wrong_part};
-use cite_call::texts::TextName;
+use cite_inputs::error::CallError;
+use cite_inputs::json::{json_value, wrong_item, wrong_part};
+use cite_inputs::texts::TextName;
 use reference_json::fault::{Pointer, Step};
 use reference_json::unkept::{NumberTexts, Unkept};
 use serde_json::{Number, Value};

@@ -2,7 +2,7 @@
 use crate::changes::{KeyedTexts, changed, gone, has_same_keys};
 use crate::style::SessionStyle;
 use crate::written::WrittenTexts;
-use cite_call::options::AnswerForm;
+use cite_inputs::options::AnswerForm;
 use csl_base::text::Text;
 use ordered_map::map::OrderedMap;
 use serde_json::Value;

@@ -9,11 +9,11 @@ use crate::style::SessionStyle;
 use crate::texts::SessionTexts;
 use crate::writing::Materials;
 use crate::written::WrittenTexts;
-use cite_call::citations::check_ids;
-use cite_call::error::CallError;
-use cite_call::findings::print_warnings;
-use cite_call::reader::TextReader;
-use cite_call::remark::Remark;
+use cite_inputs::citations::check_ids;
+use cite_inputs::error::CallError;
+use cite_inputs::findings::print_warnings;
+use cite_inputs::reader::TextReader;
+use cite_inputs::remark::Remark;
 use cite_tasks::kept::KeptTexts;
 use std::alloc::Global;
 

@@ -1,10 +1,10 @@
 //! The style of a session.
 use crate::texts::SessionTexts;
-use cite_call::error::CallError;
-use cite_call::options::AnswerForm;
-use cite_call::reader::TextReader;
-use cite_call::remark::Remark;
-use cite_call::styling::Styling;
+use cite_inputs::error::CallError;
+use cite_inputs::options::AnswerForm;
+use cite_inputs::reader::TextReader;
+use cite_inputs::remark::Remark;
+use cite_inputs::styling::Styling;
 use std::alloc::Global;
 use write_forms::forms::Form;
 

@@ -7,7 +7,7 @@ pub struct SessionTexts<'t> {
     pub style: &'t [u8],
     /// A JSON list of the texts of locale files; an empty text stands for an empty list.
     pub locales: &'t [u8],
-    /// A JSON object of options, as `cite_call::texts::CallTexts` has them; but the usual `form` is
+    /// A JSON object of options, as `cite_inputs::texts::CallTexts` has them; but the usual `form` is
     /// `text`. An empty text stands for an empty object.
     pub options: &'t [u8],
 }

@@ -3,8 +3,8 @@ use crate::citations::KeyedCitations;
 use crate::library::Library;
 use crate::style::SessionStyle;
 use crate::written::{TextWriting, WrittenTexts};
-use cite_call::error::CallError;
-use cite_call::styling::CitedItems;
+use cite_call::answering::StyledDocument;
+use cite_inputs::error::CallError;
 use cite_json::unknown::KnownItems;
 use cite_tasks::kept::KeptTexts;
 use std::alloc::Global;
@@ -46,12 +46,14 @@ impl<'s> Materials<'s> {
     ) -> Result<WrittenTexts, CallError> {
         let styling = &self.style.styling;
         let locale = styling.locale(alloc)?;
-        let document = CitedItems {
+        let styled = StyledDocument {
+            styling,
+            text: self.style.text.as_slice(),
+            locale: &locale,
             references: self.library.references(),
             citations: &citations.citations,
         };
-        let text = self.style.text.as_slice();
-        let answer = styling.answer_with(alloc, text, &locale, document, kept)?;
+        let answer = styled.answer_with(alloc, kept)?;
         let writing = TextWriting {
             form: self.style.form,
             style: &styling.style,

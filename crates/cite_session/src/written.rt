@@ -1,8 +1,8 @@
 //! The texts of an answer.
 use crate::changes::KeyedTexts;
 use cite_answer::printing::{print_citation, print_item};
-use cite_call::options::AnswerForm;
 use cite_host::answer::{Answer, ListedItem};
+use cite_inputs::options::AnswerForm;
 use cite_pieces::pieces::Pieces;
 use cite_tasks::cites::Citation;
 use cite_texts::quotes::QuoteMarks;

@@ -1,9 +1,9 @@
 -- What is handed out is a text in its place, and the status is one of the call.
 use Rattle.std.proofs.Common.{◌≡◌, inl, inr, ℕ, ◌⊎◌, List, Result, Ok, Err, String, Global, string_bytes, ap, ◌∙◌, arith}
 use Rattle.std.specs.Prelude.{IfErr}
-use Rattle.cite_call.specs.Status.{status}
-use Rattle.cite_call.specs.declared.error.CallError.{CallError}
-use Rattle.cite_call.specs.declared.error.CallError.TheVariants as errors
+use Rattle.cite_inputs.specs.Status.{status}
+use Rattle.cite_inputs.specs.declared.error.CallError.{CallError}
+use Rattle.cite_inputs.specs.declared.error.CallError.TheVariants as errors
 use Rattle.gamhilon_c.specs.Called.{PlacesText}
 use Rattle.gamhilon_c.specs.OfTexts.{HandsOutOfTexts, HandsText, IsCiteStatus, IsFaultStatus}
 

@@ -2,8 +2,8 @@
 -- which one it is.
 use Rattle.std.specs.Prelude.{◌≡◌, ◌≢◌, ℕ, ◌<◌, ◌⊎◌, List, length, Result, Ok, Err, String, string_bytes}
 use Rattle.std.specs.declared.alloc.Global.{Global}
-use Rattle.cite_call.specs.Status.{status}
-use Rattle.cite_call.specs.declared.error.CallError.{CallError}
+use Rattle.cite_inputs.specs.Status.{status}
+use Rattle.cite_inputs.specs.declared.error.CallError.{CallError}
 use Rattle.gamhilon_c.specs.Called.{Fills, PlacesText}
 
 -- A call that ended with the status `code` and told the length `needed`. The buffer held `before`

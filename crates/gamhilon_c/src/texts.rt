@@ -2,7 +2,7 @@
 ghost use Rattle.gamhilon_c.specs.OfTexts.{HandsOutOfTexts};
 
 use crate::buffer::place;
-use cite_call::error::CallError;
+use cite_inputs::error::CallError;
 
 /// Puts what comes of texts into the buffer, if there is something and the buffer is as long, and
 /// gives its length.

@@ -1,6 +1,6 @@
 -- The statuses of calls on a handle.
 use Rattle.std.specs.Prelude.{ℕ}
-use Rattle.cite_call.specs.Status.{status}
+use Rattle.cite_inputs.specs.Status.{status}
 use Rattle.session_handle.specs.declared.error.SessionError.{SessionError}
 use Rattle.session_handle.specs.declared.error.SessionError.TheVariants as errors
 

@@ -2,7 +2,7 @@
 ghost use Rattle.std.specs.Prelude.{◌≡◌};
 ghost use Rattle.session_handle.specs.Status.{session_status};
 
-use cite_call::error::CallError;
+use cite_inputs::error::CallError;
 use std::alloc::{AllocError, AllocFailed};
 
 /// Why a call on a handle did nothing.

@@ -1,7 +1,7 @@
 //! What callers in C hold: a session, and what it has to hand out.
 use crate::asking::{Asked, Edit};
 use crate::error::SessionError;
-use cite_call::error::CallError;
+use cite_inputs::error::CallError;
 use cite_session::session::Session;
 use std::alloc::Global;
 

@@ -1,7 +1,7 @@
 //! A session does what lines say.
 use crate::member::Member;
 use crate::opening::Opening;
-use cite_call::error::CallError;
+use cite_inputs::error::CallError;
 use cite_session::session::Session;
 use serde_json::Value;
 use std::alloc::{AllocError, AllocFailed, Global};

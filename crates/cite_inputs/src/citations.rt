@@ -1,9 +1,9 @@
 //! The citations of a call.
 use crate::error::{CallError, no_item};
 use crate::json::{no_json, no_utf8, wrong_part};
+use crate::place::FaultPlace;
 use crate::reader::TextReader;
 use crate::texts::TextName;
-use cite_inputs::place::FaultPlace;
 use cite_json::fault::CitationsError;
 use cite_json::notes::number_notes;
 use cite_json::reading::{ReadCitations, read_citations};

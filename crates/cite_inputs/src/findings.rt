@@ -9,7 +9,7 @@ use std::alloc::{AllocError, Global};
 /// # Errors
 ///
 /// Where memory is refused.
-pub(crate) fn print_findings(
+pub fn print_findings(
     alloc: Global,
     fault: Option<Fault>,
     faults: &[Remark],

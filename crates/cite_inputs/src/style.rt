@@ -1,10 +1,10 @@
 //! The style of a call.
 use crate::error::{CallError, refusal};
 use crate::json::no_utf8_at;
+use crate::place::FaultPlace;
 use crate::reader::TextReader;
 use crate::remark::{Fault, ParentStyle, Remark};
 use crate::texts::TextName;
-use cite_inputs::place::FaultPlace;
 use std::alloc::{AllocError, Global};
 use style_elements::error::StyleError;
 use style_elements::warning::Warning;
@@ -62,7 +62,7 @@ fn no_utf8(alloc: Global, bytes: &[u8], byte: usize) -> CallError {
 /// # Errors
 ///
 /// Where memory is refused.
-pub(crate) fn style_faults(alloc: Global, bytes: &[u8]) -> Result<Vec<Remark>, AllocError> {
+pub fn style_faults(alloc: Global, bytes: &[u8]) -> Result<Vec<Remark>, AllocError> {
     let mut remarks = Vec::new(alloc);
     if let Ok(text) = str::from_utf8(bytes) {
         for error in &faults_in_file(alloc, text)? {

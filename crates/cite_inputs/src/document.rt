@@ -9,7 +9,7 @@ use reference_values::reference::References;
 
 /// What the texts of a call say.
 #[derive(Drop)]
-pub(crate) struct CallDocument {
+pub struct CallDocument {
     pub styling: Styling,
     pub references: References,
     pub citations: Vec<Citation>,
@@ -24,7 +24,7 @@ impl TextReader {
     ///
     /// `Fault` with the first thing that is wrong: in the options, the style, the locale files, the
     /// items, or the citations; `OutOfMemory`.
-    pub(crate) fn document(&mut self, texts: CallTexts<'_>) -> Result<CallDocument, CallError> {
+    pub fn document(&mut self, texts: CallTexts<'_>) -> Result<CallDocument, CallError> {
         let styling = self.styling(texts.style, texts.locales, texts.options)?;
         let is_draft = styling.options.is_draft;
         let references = self.items(texts.items, &styling.options)?;

@@ -1,10 +1,10 @@
 //! Why a call has no answer.
 ghost use Rattle.std.specs.Prelude.{◌≡◌};
-ghost use Rattle.cite_call.specs.Status.{status};
+ghost use Rattle.cite_inputs.specs.Status.{status};
 
+use crate::place::FaultPlace;
 use crate::remark::{Fault, Remark};
 use crate::texts::TextName;
-use cite_inputs::place::FaultPlace;
 use cite_limits::error::Excess;
 use cite_limits::places::place_in;
 use cite_tasks::error::AnswerError;
@@ -59,7 +59,7 @@ pub(crate) fn refusal<W: fmt::Display>(
 }
 
 /// Why a document in a style has no answer; this is the text of the style.
-pub(crate) fn answer_refusal(
+pub fn answer_refusal(
     alloc: Global,
     text: &[u8],
     style: &CslStyle,

@@ -1,9 +1,9 @@
 -- The statuses of a call.
 use Rattle.std.specs.Prelude.{ℕ}
-use Rattle.cite_call.specs.declared.error.CallError.{CallError}
-use Rattle.cite_call.specs.declared.error.CallError.TheVariants as errors
+use Rattle.cite_inputs.specs.declared.error.CallError.{CallError}
+use Rattle.cite_inputs.specs.declared.error.CallError.TheVariants as errors
 
--- those that cite_document has, where it has them; an answer has the status 0
+-- those of documents, where these have them; an answer has the status 0
 abbrev pub status : CallError → ℕ
 status (errors.Fault fault) = 2
 status (errors.LimitExceeded remark) = 10

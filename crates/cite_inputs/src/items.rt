@@ -1,11 +1,11 @@
 //! The items of a call.
 use crate::error::CallError;
 use crate::json::{no_json, no_utf8, wrong_part};
+use crate::language::DEFAULT_LANGUAGE;
 use crate::options::CallOptions;
+use crate::place::FaultPlace;
 use crate::reader::TextReader;
 use crate::texts::TextName;
-use cite_inputs::language::DEFAULT_LANGUAGE;
-use cite_inputs::place::FaultPlace;
 use reference_files::form::ReferenceForm;
 use reference_files::reading::read_file;
 use reference_items::json::json_of;

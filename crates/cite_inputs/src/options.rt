@@ -1,8 +1,8 @@
 //! The options of a call.
 use crate::error::{CallError, refusal};
 use crate::json::{json_value, wrong_part};
+use crate::place::FaultPlace;
 use crate::texts::TextName;
-use cite_inputs::place::FaultPlace;
 use cite_json::abbreviations::{AbbreviationsError, abbreviations_of};
 use cite_limits::budget::USUAL_PART;
 use cite_limits::cost::Cost;

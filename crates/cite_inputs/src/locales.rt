@@ -1,11 +1,11 @@
 //! The locale files of a call.
 use crate::error::{CallError, refusal};
 use crate::json::{json_value, wrong_item};
+use crate::language::BUILT_IN_LANGUAGE;
+use crate::place::FaultPlace;
 use crate::reader::TextReader;
 use crate::style::file_refusal;
 use crate::texts::TextName;
-use cite_inputs::language::BUILT_IN_LANGUAGE;
-use cite_inputs::place::FaultPlace;
 use cite_locale::tags::is_same_tag;
 use std::alloc::{AllocError, Global};
 use style_english::words::ENGLISH;
