@@ -4,14 +4,6 @@
 //! it too (`CommandError::status`). What is odd in a file that is read gets a line there as well.
 #![tactic(auto)]
 
-mod checking;
-mod citations;
-mod commands;
-mod document_pages;
-mod documents;
-mod explaining;
-mod findings;
-mod packaged;
 mod sessions;
 
 use program_command::arguments::Command;
@@ -20,6 +12,7 @@ use program_command::parsing::command_of;
 use program_files::entries;
 use program_files::error::CommandError;
 use program_styles::sheet::STYLE_SHEET;
+use program_subcommands::{checking, commands, documents, packaged};
 use std::process::ExitCode;
 use std::rt::{Env, Files};
 use std::{env, io};

@@ -27,7 +27,7 @@ use std::rt::Files;
 ///
 /// Those of `bytes_of`; `Refused` where it is no document; `Document` where it has no answer, or a
 /// layout exceeds a limit; `Output`.
-pub(crate) fn render(
+pub fn render(
     rt: &(impl Files + Input + Print + AllocGlobal),
     options: &DocumentOptions,
 ) -> Result<(), CommandError> {

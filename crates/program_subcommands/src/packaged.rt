@@ -7,10 +7,7 @@ use program_styles::styles::{NAMES, style_named};
 /// # Errors
 ///
 /// `UnknownStyle`; `Output`; `OutOfMemory`.
-pub(crate) fn show(
-    rt: &(impl Print + AllocGlobal),
-    name: Option<&str>,
-) -> Result<(), CommandError> {
+pub fn show(rt: &(impl Print + AllocGlobal), name: Option<&str>) -> Result<(), CommandError> {
     let Some(name) = name else {
         return show_names(rt);
     };

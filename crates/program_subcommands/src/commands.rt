@@ -75,7 +75,7 @@ struct AskedDocument<'p> {
 /// # Errors
 ///
 /// Each of `CommandError` but `Usage`.
-pub(crate) fn cite(
+pub fn cite(
     rt: &(impl Files + Input + Print + Eprint + AllocGlobal + Clone + Drop),
     options: &Options,
 ) -> Result<(), CommandError> {
@@ -92,7 +92,7 @@ pub(crate) fn cite(
 /// # Errors
 ///
 /// Each of `CommandError` but `Usage`.
-pub(crate) fn bibliography(
+pub fn bibliography(
     rt: &(impl Files + Input + Print + Eprint + AllocGlobal + Clone + Drop),
     options: &Options,
 ) -> Result<(), CommandError> {
@@ -104,7 +104,7 @@ pub(crate) fn bibliography(
 /// # Errors
 ///
 /// Each of `CommandError` but `Usage`.
-pub(crate) fn explain(
+pub fn explain(
     rt: &(impl Files + Input + Print + Eprint + AllocGlobal + Clone + Drop),
     options: &Options,
 ) -> Result<(), CommandError> {

@@ -41,7 +41,7 @@ enum FileKind {
 /// # Errors
 ///
 /// `Output`; `OutOfMemory`.
-pub(crate) fn check_all(
+pub fn check_all(
     rt: &(impl Files + Input + Print + Eprint + AllocGlobal),
     options: &CheckOptions,
 ) -> Result<ExitCode, CommandError> {
