@@ -26,9 +26,8 @@ READERS = ['style_reader', 'style_elements']
 # The writer of citations by style files, and what the driver does in the mode `csl`.
 PRODUCT = '''cite_texts cite_pieces cite_locale cite_dates cite_program cite_names cite_trees cite_walk cite_sorting
 cite_tasks cite_host cite_answer write_html write_forms cite_inputs program_files program_pages program_subcommands mentions_names
-mentions_groups
-mentions_tables mentions_notes mentions_ranges mentions_blocks mentions_arranging mentions_authors mentions_cited mentions_cites
-driver_assembly driver_passes'''.split()
+mentions_groups mentions_tables mentions_notes mentions_ranges mentions_blocks mentions_arranging mentions_authors mentions_cited
+mentions_cites driver_assembly driver_passes'''.split()
 # The writer of layouts in JSON, and what the driver does in the modes `three` and `full`.
 PORT = '''driver_lookup driver_styles layout_context layout_picking csl_writing driver_positions rounds_ambiguity rounds_names
 rounds_grouping rounds_substitution rounds_rendering driver_assembly driver_passes csl_driver'''.split()
