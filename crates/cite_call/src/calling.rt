@@ -8,11 +8,11 @@ use cite_inputs::document::CallDocument;
 use cite_inputs::error::CallError;
 use cite_inputs::findings::print_findings;
 use cite_inputs::options::AnswerForm;
-use cite_inputs::place::FaultPlace;
 use cite_inputs::reader::TextReader;
 use cite_inputs::remark::{Fault, Remark};
 use cite_inputs::style::style_faults;
 use cite_inputs::texts::{CallTexts, TextName};
+use fault_places::place::FaultPlace;
 use std::alloc::{AllocError, Global};
 
 /// The citations and the bibliography of these texts, which is there where the style has one: as

@@ -1,7 +1,6 @@
 //! The citations of a call.
 use crate::error::{CallError, no_item};
 use crate::json::{no_json, no_utf8, wrong_part};
-use crate::place::FaultPlace;
 use crate::reader::TextReader;
 use crate::texts::TextName;
 use cite_json::fault::CitationsError;
@@ -9,6 +8,7 @@ use cite_json::notes::number_notes;
 use cite_json::reading::{ReadCitations, read_citations};
 use cite_json::unknown::{KnownItems, unknown_items, with_missing};
 use cite_tasks::cites::Citation;
+use fault_places::place::FaultPlace;
 use reference_values::reference::References;
 use std::alloc::{AllocError, Global};
 

@@ -2,12 +2,12 @@
 ghost use Rattle.std.specs.Prelude.{◌≡◌};
 ghost use Rattle.cite_inputs.specs.Status.{status};
 
-use crate::place::FaultPlace;
 use crate::remark::{Fault, Remark};
 use crate::texts::TextName;
 use cite_limits::error::Excess;
 use cite_limits::places::place_in;
 use cite_tasks::error::AnswerError;
+use fault_places::place::FaultPlace;
 use std::alloc::{AllocError, AllocFailed, Global};
 use std::fmt;
 use style_file::style::CslStyle;

@@ -1,11 +1,10 @@
 //! The items of a call.
 use crate::error::CallError;
 use crate::json::{no_json, no_utf8, wrong_part};
-use crate::language::DEFAULT_LANGUAGE;
 use crate::options::CallOptions;
-use crate::place::FaultPlace;
 use crate::reader::TextReader;
 use crate::texts::TextName;
+use fault_places::place::FaultPlace;
 use reference_files::form::ReferenceForm;
 use reference_files::reading::read_file;
 use reference_items::json::json_of;
@@ -14,6 +13,7 @@ use reference_json::fault::{Fault, ReferencesError};
 use reference_json::reading::{read_references, read_sound_references};
 use reference_values::reference::References;
 use std::alloc::{AllocError, Global};
+use style_english::language::DEFAULT_LANGUAGE;
 use style_xml::error::Place;
 
 impl TextReader {

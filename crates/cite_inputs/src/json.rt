@@ -1,7 +1,7 @@
 //! JSON texts that no other crate reads.
 use crate::error::{CallError, refusal};
-use crate::place::FaultPlace;
 use crate::texts::TextName;
+use fault_places::place::FaultPlace;
 use serde_json::Value;
 use std::alloc::Global;
 use std::fmt;

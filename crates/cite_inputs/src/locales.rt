@@ -1,13 +1,13 @@
 //! The locale files of a call.
 use crate::error::{CallError, refusal};
 use crate::json::{json_value, wrong_item};
-use crate::language::BUILT_IN_LANGUAGE;
-use crate::place::FaultPlace;
 use crate::reader::TextReader;
 use crate::style::file_refusal;
 use crate::texts::TextName;
 use cite_locale::tags::is_same_tag;
+use fault_places::place::FaultPlace;
 use std::alloc::{AllocError, Global};
+use style_english::language::BUILT_IN_LANGUAGE;
 use style_english::words::ENGLISH;
 use style_file::fallback::{LocaleSource, lookup_order};
 use style_file::locale::LocaleFile;

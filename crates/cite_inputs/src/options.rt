@@ -1,12 +1,12 @@
 //! The options of a call.
 use crate::error::{CallError, refusal};
 use crate::json::{json_value, wrong_part};
-use crate::place::FaultPlace;
 use crate::texts::TextName;
 use cite_json::abbreviations::{AbbreviationsError, abbreviations_of};
 use cite_limits::budget::USUAL_PART;
 use cite_limits::cost::Cost;
 use cite_walk::abbreviations::Abbreviations;
+use fault_places::place::FaultPlace;
 use reference_files::form::ReferenceForm;
 use reference_json::fault::{Pointer, Step};
 use serde_json::Value;

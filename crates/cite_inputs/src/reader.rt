@@ -1,7 +1,7 @@
 //! The reader of texts, and what it warns of.
-use crate::place::FaultPlace;
 use crate::remark::Remark;
 use crate::texts::TextName;
+use fault_places::place::FaultPlace;
 use std::alloc::{AllocError, Global};
 use std::fmt;
 

@@ -1,6 +1,6 @@
 //! What is wrong or odd in a text.
-use crate::place::FaultPlace;
 use crate::texts::TextName;
+use fault_places::place::FaultPlace;
 use std::fmt;
 use style_xml::error::Place;
 

@@ -1,10 +1,10 @@
 //! The style of a call.
 use crate::error::{CallError, refusal};
 use crate::json::no_utf8_at;
-use crate::place::FaultPlace;
 use crate::reader::TextReader;
 use crate::remark::{Fault, ParentStyle, Remark};
 use crate::texts::TextName;
+use fault_places::place::FaultPlace;
 use std::alloc::{AllocError, Global};
 use style_elements::error::StyleError;
 use style_elements::warning::Warning;

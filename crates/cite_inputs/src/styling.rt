@@ -1,12 +1,12 @@
 //! A style in use.
 use crate::error::{CallError, answer_refusal};
-use crate::language::DEFAULT_LANGUAGE;
 use crate::options::{CallOptions, options_of};
 use crate::reader::TextReader;
 use cite_locale::chain::LocaleChain;
 use cite_locale::tags::usual_tag;
 use cite_tasks::limits::check_style;
 use std::alloc::{AllocError, Global};
+use style_english::language::DEFAULT_LANGUAGE;
 use style_file::locale::LocaleFile;
 use style_file::style::CslStyle;
 

@@ -1,6 +1,6 @@
 //! What is wrong and odd in a style file or a locale file.
 use crate::finding::Finding;
-use cite_inputs::place::FaultPlace;
+use fault_places::place::FaultPlace;
 use program_command::one_line::is_direction;
 use std::alloc::{AllocError, Global};
 use std::fmt;

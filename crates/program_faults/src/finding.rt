@@ -1,5 +1,5 @@
 //! What is wrong or odd in a file, and where.
-use cite_inputs::place::FaultPlace;
+use fault_places::place::FaultPlace;
 use program_command::one_line::OneLine;
 use std::alloc::{AllocError, Global};
 use std::fmt;

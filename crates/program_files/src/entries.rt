@@ -3,8 +3,7 @@ use crate::error::CommandError;
 use crate::files::bytes_of;
 use crate::json_causes::{behind_mark, value_in};
 use crate::reports::{refused, show_findings, show_warning};
-use cite_inputs::language::DEFAULT_LANGUAGE;
-use cite_inputs::place::FaultPlace;
+use fault_places::place::FaultPlace;
 use program_command::arguments::EntriesOptions;
 use program_faults::finding::Finding;
 use reference_files::form::{ReferenceForm, form_of};
@@ -14,6 +13,7 @@ use reference_items::reading::{Loss, ReadItems};
 use serde_json::Value;
 use std::alloc::{AllocError, Global};
 use std::rt::Files;
+use style_english::language::DEFAULT_LANGUAGE;
 use style_xml::error::Place;
 
 /// Prints the references of files as one list of CSL-JSON, and what was lost of them, by entry and

@@ -2,7 +2,7 @@
 use crate::error::CommandError;
 use crate::json_causes::{behind_mark, value_or_null};
 use crate::reports::{refused_in, show_findings};
-use cite_inputs::place::FaultPlace;
+use fault_places::place::FaultPlace;
 use program_faults::finding::Finding;
 use reference_json::fault::{Fault, Pointer, Step};
 use reference_json::warning::Warning;

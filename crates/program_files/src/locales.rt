@@ -2,11 +2,11 @@
 use crate::error::CommandError;
 use crate::files::{is_absent, text_of};
 use crate::reports::{show_style_warnings, show_warning, style_refused};
-use cite_inputs::language::BUILT_IN_LANGUAGE;
 use program_command::arguments::Options;
 use program_command::one_line::OneLine;
 use std::alloc::Global;
 use std::rt::Files;
+use style_english::language::BUILT_IN_LANGUAGE;
 use style_english::words::ENGLISH;
 use style_file::fallback::{LocaleSource, is_same_language, lookup_order};
 use style_file::locale::LocaleFile;

@@ -1,9 +1,9 @@
 //! What is wrong and odd in files, as errors of a command and as lines on standard error.
 use crate::document_error::DocumentError;
 use crate::error::CommandError;
-use cite_inputs::place::FaultPlace;
 use cite_limits::error::Excess;
 use cite_limits::places::place_in;
+use fault_places::place::FaultPlace;
 use program_faults::faults::style_warnings;
 use program_faults::finding::{Finding, PrintedFinding};
 use std::alloc::{AllocError, Global};

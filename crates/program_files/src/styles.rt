@@ -3,13 +3,13 @@ use crate::error::CommandError;
 use crate::files::{is_absent, text_of};
 use crate::near_styles::near_style;
 use crate::reports::{refused, show_style_warnings, style_refused};
-use cite_inputs::language::DEFAULT_LANGUAGE;
 use cite_locale::tags::usual_tag;
 use program_command::arguments::Options;
 use program_styles::styles::style_named;
 use std::alloc::{AllocError, Global};
 use std::fs;
 use std::rt::Files;
+use style_english::language::DEFAULT_LANGUAGE;
 use style_file::style::{CslStyle, DependentStyle, StyleFile};
 use style_reader::file::read_style;
 

@@ -1,9 +1,9 @@
 //! Cites of items that aren't there.
 use crate::error::CommandError;
 use crate::reports::{refused_for_all, show_findings};
-use cite_inputs::place::FaultPlace;
 use cite_json::unknown::{UnknownItem, unknown_items};
 use cite_tasks::cites::Citation;
+use fault_places::place::FaultPlace;
 use program_faults::finding::Finding;
 use reference_values::reference::References;
 use std::alloc::{AllocError, Global};

@@ -1,8 +1,8 @@
 //! Citations of files, with what is wrong and odd in them.
-use cite_inputs::place::FaultPlace;
 use cite_json::fault::{CitationFault, CitationsError};
 use cite_json::reading::{ReadCitations, read_citations};
 use cite_json::warning::CiteWarning;
+use fault_places::place::FaultPlace;
 use program_faults::finding::Finding;
 use program_files::error::CommandError;
 use program_files::json_causes::{behind_mark, json_refused};

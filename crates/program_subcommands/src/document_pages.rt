@@ -1,8 +1,8 @@
 //! What pages of an answer have of its document.
-use cite_inputs::language::DEFAULT_LANGUAGE;
 use program_pages::page::anchor;
 use serde_json::Value;
 use std::alloc::{AllocError, Global};
+use style_english::language::DEFAULT_LANGUAGE;
 
 /// For each request of a document the ids of the items of its cites, in their order.
 ///

@@ -1,12 +1,12 @@
 //! Documents of `cite_run` are answered, and their faults reported.
 use crate::document_pages::{language_of, targets_of, text_at};
-use cite_inputs::place::FaultPlace;
 use document_answer::error::RunError;
 use document_answer::faults::print_fault_bytes;
 use document_answer::limits::{LimitError, check_limits};
 use document_answer::running::{answer_bytes, print_bytes, print_json_bytes};
 use driver_assembly::rendered::Rendered;
 use driver_styles::limits::{Excess, Limits};
+use fault_places::place::FaultPlace;
 use program_command::arguments::{DocumentOptions, OutputFormat};
 use program_faults::finding::Finding;
 use program_files::document_error::DocumentError;

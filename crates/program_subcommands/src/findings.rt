@@ -1,5 +1,5 @@
 //! What comes of the check of a file, as lines of text and as JSON.
-use cite_inputs::place::FaultPlace;
+use fault_places::place::FaultPlace;
 use program_command::one_line::OneLine;
 use program_faults::finding::Finding;
 use program_files::error::CommandError;
