@@ -184,25 +184,31 @@ impl<'d> Document<'d> {
     ) -> Result<Answer, AnswerError> {
         let Rendered {
             bibliography,
-            citations: rendered,
+            citations,
         } = rendered;
+        let citations = self.streams(alloc, citations.into_vec(), sorted)?;
+        let bibliography = self.listed(alloc, bibliography, items)?;
+        Ok(Answer {
+            citations,
+            bibliography,
+        })
+    }
+
+    /// The citations as streams. The tree of each is dropped as its stream is made.
+    fn streams(
+        &self,
+        alloc: Global,
+        rendered: Vec<RenderedCitation>,
+        sorted: &[SortedCitation<'d>],
+    ) -> Result<Vec<Pieces>, AllocError> {
         let mut citations = Vec::new(alloc);
-        for (place, citation) in rendered.into_vec().into_iter().enumerate() {
+        for (place, citation) in rendered.into_iter().enumerate() {
             if let Some(asked) = self.citations.get(place) {
                 let places = places_at(sorted, place);
                 citations.push(self.citation(alloc, &citation, places, asked)?)?;
             }
         }
-        let bibliography = match bibliography {
-            Some(bibliography) if self.lists_items => {
-                Some(self.listed(alloc, bibliography, items)?)
-            }
-            _ => None,
-        };
-        Ok(Answer {
-            citations,
-            bibliography,
-        })
+        Ok(citations)
     }
 
     /// A citation as a stream; its cites have these places in the document.
@@ -240,19 +246,26 @@ impl<'d> Document<'d> {
         Ok(out)
     }
 
+    /// The items of a bibliography, where they are wanted.
     fn listed(
         &self,
         alloc: Global,
-        bibliography: RenderedBibliography,
+        bibliography: Option<RenderedBibliography>,
         items: &Items<'d>,
-    ) -> Result<Vec<ListedItem>, AllocError> {
+    ) -> Result<Option<Vec<ListedItem>>, AllocError> {
+        let Some(bibliography) = bibliography else {
+            return Ok(None);
+        };
+        if !self.lists_items {
+            return Ok(None);
+        }
         let in_quotes = self.locale.has_punctuation_in_quotes();
         let mut listed = Vec::new(alloc);
         for item in bibliography.items.into_vec() {
             let id = items.keyed_id(item.key.as_str()).unwrap_or("");
             listed.push(listed_item(alloc, id, &item, in_quotes)?)?;
         }
-        Ok(listed)
+        Ok(Some(listed))
     }
 }
 
