@@ -12,17 +12,34 @@ use std::alloc::Global;
 /// A document, and the texts that say how it is written.
 #[derive(Clone, Copy)]
 pub struct StyledDocument<'d> {
-    pub styling: &'d Styling,
+    styling: &'d Styling,
     /// The text of the style.
-    pub text: &'d [u8],
+    text: &'d [u8],
     /// The words of the language.
-    pub locale: &'d LocaleChain<'d>,
+    locale: &'d LocaleChain<'d>,
     /// The items that may be cited.
-    pub references: &'d References,
-    pub citations: &'d [Citation],
+    references: &'d References,
+    citations: &'d [Citation],
 }
 
 impl<'d> StyledDocument<'d> {
+    /// Citations of these items, to be written in a style, whose text this is.
+    pub fn new(
+        styling: &'d Styling,
+        text: &'d [u8],
+        locale: &'d LocaleChain<'d>,
+        references: &'d References,
+        citations: &'d [Citation],
+    ) -> StyledDocument<'d> {
+        StyledDocument {
+            styling,
+            text,
+            locale,
+            references,
+            citations,
+        }
+    }
+
     /// The citations and the bibliography.
     ///
     /// # Errors

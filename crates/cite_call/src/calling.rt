@@ -4,6 +4,7 @@ ghost use Rattle.std.specs.Prelude.{◌≡◌, IfErr};
 use crate::answering::StyledDocument;
 use crate::lines::print_lines;
 use cite_answer::printing::print_answer;
+use cite_host::answer::Answer;
 use cite_inputs::document::CallDocument;
 use cite_inputs::error::CallError;
 use cite_inputs::findings::print_findings;
@@ -12,6 +13,7 @@ use cite_inputs::reader::TextReader;
 use cite_inputs::remark::{Fault, Remark};
 use cite_inputs::style::style_faults;
 use cite_inputs::texts::{CallTexts, TextName};
+use cite_locale::chain::LocaleChain;
 use fault_places::place::FaultPlace;
 use std::alloc::{AllocError, Global};
 
@@ -34,27 +36,31 @@ fn print_document(
     text: &[u8],
     document: &CallDocument,
 ) -> Result<String, CallError> {
+    let styling = &document.styling;
+    let locale = styling.locale(alloc)?;
+    let mut answer = answered(alloc, text, document, &locale)?;
+    answer.citations.truncate(document.shown);
+    let marks = locale.quote_marks();
+    Ok(match styling.options.form {
+        Some(AnswerForm::Lines(form)) => print_lines(alloc, form, &answer, marks)?,
+        _ => print_answer(alloc, &styling.style, &document.citations, &answer, marks)?,
+    })
+}
+
+/// What comes of a document in the words of a language.
+fn answered(
+    alloc: Global,
+    text: &[u8],
+    document: &CallDocument,
+    locale: &LocaleChain<'_>,
+) -> Result<Answer, CallError> {
     let CallDocument {
         styling,
         references,
         citations,
-        shown,
+        ..
     } = document;
-    let locale = styling.locale(alloc)?;
-    let styled = StyledDocument {
-        styling,
-        text,
-        locale: &locale,
-        references,
-        citations,
-    };
-    let mut answer = styled.answer(alloc)?;
-    answer.citations.truncate(*shown);
-    let marks = locale.quote_marks();
-    Ok(match styling.options.form {
-        Some(AnswerForm::Lines(form)) => print_lines(alloc, form, &answer, marks)?,
-        _ => print_answer(alloc, &styling.style, citations, &answer, marks)?,
-    })
+    StyledDocument::new(styling, text, locale, references, citations).answer(alloc)
 }
 
 /// What is wrong and odd in these texts, as a JSON object: `fault`, where a text is wrong;

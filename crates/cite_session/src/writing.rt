@@ -4,8 +4,10 @@ use crate::library::Library;
 use crate::style::SessionStyle;
 use crate::written::{TextWriting, WrittenTexts};
 use cite_call::answering::StyledDocument;
+use cite_host::answer::Answer;
 use cite_inputs::error::CallError;
 use cite_json::unknown::KnownItems;
+use cite_locale::chain::LocaleChain;
 use cite_tasks::kept::KeptTexts;
 use std::alloc::Global;
 
@@ -46,14 +48,7 @@ impl<'s> Materials<'s> {
     ) -> Result<WrittenTexts, CallError> {
         let styling = &self.style.styling;
         let locale = styling.locale(alloc)?;
-        let styled = StyledDocument {
-            styling,
-            text: self.style.text.as_slice(),
-            locale: &locale,
-            references: self.library.references(),
-            citations: &citations.citations,
-        };
-        let answer = styled.answer_with(alloc, kept)?;
+        let answer = self.answered(alloc, &locale, citations, kept)?;
         let writing = TextWriting {
             form: self.style.form,
             style: &styling.style,
@@ -61,5 +56,21 @@ impl<'s> Materials<'s> {
             marks: locale.quote_marks(),
         };
         Ok(WrittenTexts::of_answer(alloc, writing, &citations.keys, &answer)?)
+    }
+
+    /// What comes of the document in the words of a language.
+    fn answered(
+        self,
+        alloc: Global,
+        locale: &LocaleChain<'_>,
+        citations: &KeyedCitations,
+        kept: &mut KeptTexts,
+    ) -> Result<Answer, CallError> {
+        let styling = &self.style.styling;
+        let text = self.style.text.as_slice();
+        let references = self.library.references();
+        StyledDocument::new(styling, text, locale, references, &citations.citations).answer_with(
+            alloc, kept,
+        )
     }
 }
