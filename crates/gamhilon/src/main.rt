@@ -6,13 +6,14 @@
 
 mod sessions;
 
+use program_checks::{checking, documents};
 use program_command::arguments::Command;
 use program_command::error::UsageError;
 use program_command::parsing::command_of;
 use program_files::entries;
 use program_files::error::CommandError;
 use program_styles::sheet::STYLE_SHEET;
-use program_subcommands::{checking, commands, documents, packaged};
+use program_subcommands::{commands, packaged};
 use std::process::ExitCode;
 use std::rt::{Env, Files};
 use std::{env, io};

@@ -18,7 +18,7 @@ const REFERENCES: &str = "these are references, not citations: name them by `--r
 /// # Errors
 ///
 /// `Refused` where it has none; `OutOfMemory`.
-pub(crate) fn citations_in(
+pub fn citations_in(
     alloc: Global,
     path: &str,
     bytes: &[u8],
@@ -53,7 +53,7 @@ fn citation_refused(
 /// # Errors
 ///
 /// Where memory is refused.
-pub(crate) fn citation_warnings(
+pub fn citation_warnings(
     alloc: Global,
     warnings: &[CiteWarning],
 ) -> Result<Vec<Finding>, AllocError> {

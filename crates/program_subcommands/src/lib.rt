@@ -1,12 +1,8 @@
-//! What the subcommands of the program do, but sessions: files are checked, documents cited, listed,
-//! explained and rendered, and the styles that are built in printed.
+//! Citations and lists are written and explained as the words of the command line say, and the styles
+//! that are built in are printed.
 #![tactic(auto)]
 
-pub mod checking;
-mod citations;
+pub mod citations;
 pub mod commands;
-mod document_pages;
-pub mod documents;
 mod explaining;
-mod findings;
 pub mod packaged;

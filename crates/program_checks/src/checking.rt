@@ -1,5 +1,4 @@
 //! Files are checked: styles, locale files, references, citations and documents.
-use crate::citations::{citation_warnings, citations_in};
 use crate::documents::document_fault;
 use crate::findings::{CheckedFile, Content, print_list, push_checked, show_checked};
 use cite_limits::budget::USUAL_PART;
@@ -15,6 +14,7 @@ use program_files::items::item_warnings;
 use program_files::json_causes::{behind_mark, value_or_null};
 use program_files::references::references_in;
 use program_files::reports::{limit_exceeded, refused, refused_for, refused_for_all};
+use program_subcommands::citations::{citation_warnings, citations_in};
 use std::alloc::{AllocError, Global};
 use std::process::ExitCode;
 use std::rt::Files;
